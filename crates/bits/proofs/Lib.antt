@@ -1,0 +1,5 @@
+pub mod Reading
+pub mod Writing
+pub mod Parts
+pub mod Runs
+pub mod Cover

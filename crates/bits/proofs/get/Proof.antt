@@ -1,0 +1,39 @@
+use Prim.Native.Nat.{_-_, _%_}
+use native.Mathlib.Nat.{mod-lt}
+use mathlib.Core.Path.{sym}
+use native.Mathlib.Omega.{arith}
+use denote.Ref.{now}
+use lib.Pow.{pow-pos}
+use Rattle.bits.proofs.Reading.{one-shl, field-of-window}
+use borrow.Author.Needs.{needs}
+use Rattle.bits.proofs.get.Statement.{statement}
+use Rattle.bits.proofs.get.Tie as tie
+
+window-requires : tie.Need-window-requires
+window-requires c κs = search needs
+
+sub-result : tie.Need-sub-result
+sub-result c = search needs
+
+sub-result-2 : tie.Need-sub-result-2
+sub-result-2 c = search needs
+
+shr-result : tie.Need-shr-result
+shr-result c = search needs
+
+shl-result : tie.Need-shl-result
+shl-result c = search needs
+
+rem-result : tie.Need-rem-result
+rem-result c = rw (one-shl (c .before .before .args .width) (omega arith)) (pow-pos (c .before .before .args .width))
+
+returns : tie.Need-returns
+returns c =
+    let a = c .before .before .args in
+    let e = field-of-window (now (a .s)) (a .at) (a .width) (32 - a .at % 8 - a .width) (omega arith) in
+    rw (one-shl (a .width) (omega arith), c .window .ensures .0) (sym e, mod-lt _ (pow-pos (a .width)))
+
+pub get-spec : {M : Type 1} → statement M
+get-spec =
+    tie.close
+    (tie.spec window-requires sub-result sub-result-2 shr-result shl-result rem-result returns)

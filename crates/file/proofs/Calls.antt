@@ -1,0 +1,136 @@
+-- The promises of unpack and pack in each of their cases, from what was answered before.
+-- Assumes nothing.
+use mathlib.Core.Path.{_≡_, refl, sym, ap, _∙_}
+use mathlib.Core.Bool.{Bool, true, false, _||_}
+use mathlib.Core.List.{List, [], _∷_, _++_}
+use Prim.Native.Nat.{ℕ, _+_, _*_, _≤_, _<_}
+use native.Mathlib.Omega.{arith}
+use lib.Dec.{ltb}
+use lib.ListN.{length, drop, replicate}
+use borrow.Author.Tests.{lt-ltb, le-ltb}
+use Rattle.bits.specs.Bits.{fields}
+use Rattle.meaning.specs.Filter.{Edge}
+use Rattle.file.specs.declared.Profile.{Profile}
+use Rattle.file.specs.declared.Kind.the-variants.{Room}
+use Rattle.file.specs.declared.Refusal.{Refusal}
+use Rattle.file.specs.declared.Reading.{Reading}
+use Rattle.file.specs.declared.Checked.{Checked}
+use Rattle.file.specs.declared.Checked.the-variants as checked
+use Rattle.file.specs.declared.Unpacked.{Unpacked}
+use Rattle.file.specs.declared.Unpacked.the-variants as unpacked
+use Rattle.file.specs.declared.Packed.{Packed}
+use Rattle.file.specs.declared.Packed.the-variants as packed
+use Rattle.file.specs.Layout.{headerBits, edgesBegin, flat, written}
+use Rattle.file.specs.Contents.{statesIn, labelsIn, startIn, countIn, coloursIn, edgesFrom, edgesIn}
+use Rattle.file.specs.Answers.{Outcome, accepted, refused, readingOutcome, refusalOutcome, checkedOutcome, unpackedOutcome, packedOutcome}
+use Rattle.file.specs.Refusals.{checkOf, numbersIn, unpackOf, packOf, listed, laid}
+use Rattle.file.specs.Promise.{CheckPromise, UnpackPromise, PackPromise}
+use Rattle.file.proofs.EdgeLists.{length-flat}
+use Rattle.file.proofs.Tests.{clash, Sound, check-sound}
+use Rattle.file.proofs.Files.{length-colours, length-edges-in}
+
+or-left : (a b : Bool) → a ≡ true → a || b ≡ true
+or-left true b h = refl
+or-left false b h = clash cc
+
+or-right : (a b : Bool) → b ≡ true → a || b ≡ true
+or-right true b h = refl
+or-right false b h = h
+
+or-neither : (a b : Bool) → a ≡ false → b ≡ false → a || b ≡ false
+or-neither true b h k = h
+or-neither false b h k = k
+
+coloured : (P : Profile) (s : List ℕ) → fields s (headerBits P) (replicate (statesIn P s) (P .colour)) ≡ coloursIn P s
+unfolding coloursIn
+coloured P s = refl
+
+edged : (P : Profile) (s : List ℕ) → edgesFrom P s (edgesBegin P (statesIn P s)) (countIn P s) ≡ edgesIn P s
+unfolding edgesIn
+edged P s = refl
+
+-- The numbers of a reading are the file's.
+pub record ReadIs (P : Profile) (s : List ℕ) (r : Reading) : Type 0 where
+  pub sound : Sound P s
+  pub answer : checkOf P s ≡ readingOutcome r
+  pub states-are : r .states ≡ statesIn P s
+  pub labels-are : r .labels ≡ labelsIn P s
+  pub start-is : r .start ≡ startIn P s
+  pub count-is : r .edges ≡ countIn P s
+
+module _ (P : Profile) (s : List ℕ) (a : Checked) (p : CheckPromise P s a) where
+  pub read-is : (r : Reading) → a ≡ checked.Accepted r → ReadIs P s r
+  read-is r e =
+      let h : checkOf P s ≡ readingOutcome r = sym p ∙ ap checkedOutcome e in
+      let q = check-sound P s _ h in
+      let n : numbersIn P s ≡ r .states ∷ r .labels ∷ r .start ∷ r .edges ∷ [] = q .1 in
+      record {
+        sound = q .0;
+        answer = h;
+        states-are = cc;
+        labels-are = cc;
+        start-is = cc;
+        count-is = cc;
+      }
+
+  module _ (colours edges : List ℕ) where
+    -- a refused file ends the call with that same refusal
+    pub unpack-refused : (why : Refusal) (r : Unpacked) → a ≡ checked.Refused why → unpackedOutcome r ≡ checkedOutcome a → UnpackPromise P s colours edges r colours edges
+    unfolding unpackOf
+    unpack-refused why r e same =
+        let h : checkOf P s ≡ refusalOutcome why = sym p ∙ ap checkedOutcome e in
+        record {
+          answer = same ∙ ap checkedOutcome e ∙ rw h;
+          colours-after = rw h;
+          edges-after = rw h;
+        }
+
+    module _ (r : Reading) (e : a ≡ checked.Accepted r) where
+      short : (ltb (length colours) (statesIn P s) || ltb (length edges) (3 * countIn P s)) ≡ true →
+          UnpackPromise P s colours edges (unpacked.Refused (record { kind = Room; place = 0 })) colours edges
+      unfolding unpackOf
+      short h = let k = read-is r e .answer in record { answer = rw (k, h); colours-after = rw (k, h); edges-after = rw (k, h) }
+
+      pub short-colours : length colours < r .states → UnpackPromise P s colours edges (unpacked.Refused (record { kind = Room; place = 0 })) colours edges
+      short-colours l =
+          short (or-left (ltb (length colours) (statesIn P s)) (ltb (length edges) (3 * countIn P s)) (lt-ltb (length colours) (statesIn P s) (omega (arith, read-is r e .states-are))))
+
+      pub short-edges : length edges < 3 * r .edges → UnpackPromise P s colours edges (unpacked.Refused (record { kind = Room; place = 0 })) colours edges
+      short-edges l =
+          short (or-right (ltb (length colours) (statesIn P s)) (ltb (length edges) (3 * countIn P s)) (lt-ltb (length edges) (3 * countIn P s) (omega (arith, read-is r e .count-is))))
+
+      pub unpack-filled : r .states ≤ length colours → 3 * r .edges ≤ length edges →
+          UnpackPromise P s colours edges (unpacked.Accepted r) (laid (coloursIn P s) colours) (laid (flat (edgesIn P s)) edges)
+      unfolding unpackOf
+      unpack-filled lc le =
+          let k = read-is r e .answer in
+          let h : (ltb (length colours) (statesIn P s) || ltb (length edges) (3 * countIn P s)) ≡ false =
+          or-neither (ltb (length colours) (statesIn P s)) (ltb (length edges) (3 * countIn P s)) (le-ltb (length colours) (statesIn P s) (omega (arith, read-is r e .states-are)))
+          (le-ltb (length edges) (3 * countIn P s) (omega (arith, read-is r e .count-is))) in
+          record { answer = rw (k, h); colours-after = rw (k, h); edges-after = rw (k, h) }
+
+-- the colours and the edges as they are read, laid into the rooms
+pub colours-laid : (P : Profile) (s room : List ℕ) (at n : ℕ) → at ≡ headerBits P → n ≡ statesIn P s →
+    fields s at (replicate n (P .colour)) ++ drop n room ≡ laid (coloursIn P s) room
+colours-laid P s room at n h e = rw (length-colours P s, h, e) (ap (λ (l : List ℕ). l ++ drop (statesIn P s) room) (coloured P s))
+
+pub edges-laid : (P : Profile) (s room : List ℕ) (at n e : ℕ) → at ≡ edgesBegin P n → n ≡ statesIn P s → e ≡ countIn P s →
+    flat (edgesFrom P s at e) ++ drop (3 * e) room ≡ laid (flat (edgesIn P s)) room
+edges-laid P s room at n e h k l =
+    rw (length-flat (edgesIn P s), length-edges-in P s, h, k, l) (ap (λ (es : List Edge). flat es ++ drop (3 * countIn P s) room) (edged P s))
+
+-- ---- pack
+
+-- what pack's lists make of its answer: nothing of the room is changed by a refusal, and the file is laid into it otherwise
+pub pack-refused : (P : Profile) (cs es : List ℕ) (m st : ℕ) (room : List ℕ) (r : Packed) (why : Refusal) →
+    packedOutcome r ≡ packOf P cs es m st (length room) → r ≡ packed.Refused why → PackPromise P cs es m st room r room
+pack-refused P cs es m st room r why h e =
+    let k : packOf P cs es m st (length room) ≡ refusalOutcome why = sym h ∙ ap packedOutcome e in
+    record { answer = h; room-after = rw k }
+
+pub pack-laid : (P : Profile) (cs es : List ℕ) (m st : ℕ) (room : List ℕ) (r : Packed) (n : ℕ) →
+    packedOutcome r ≡ packOf P cs es m st (length room) → r ≡ packed.Accepted n →
+    PackPromise P cs es m st room (packed.Accepted n) (laid (written P (listed cs es m st)) room)
+pack-laid P cs es m st room r n h e =
+    let k : packOf P cs es m st (length room) ≡ accepted (n ∷ []) = sym h ∙ ap packedOutcome e in
+    record { answer = sym k; room-after = rw k }

@@ -1,0 +1,6 @@
+pub mod Bounds
+pub mod EdgeLists
+pub mod Tests
+pub mod Files
+pub mod RoundTrip
+pub mod Calls

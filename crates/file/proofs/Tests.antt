@@ -1,0 +1,248 @@
+-- Tests in a row, taken apart: what an accepted file and accepted lists have passed.
+-- Assumes nothing.
+use mathlib.Core.Path.{_≡_, refl, sym, ap, _∙_}
+use mathlib.Core.Bool.{Bool, true, false, not, _&&_, _||_}
+use mathlib.Core.List.{List, [], _∷_, _++_}
+use mathlib.Core.Option.{Option, none, some}
+use Prim.Native.Nat.{ℕ, zero, suc, _+_, _*_, _-_, _/_, _%_, _^_, _≤_, _<_}
+use native.Mathlib.Omega.{arith}
+use lib.Dec.{eqb, leb, ltb}
+use lib.ListN.{length}
+use borrow.Author.Tests.{lt-ltb, le-ltb, le-leb, lt-leb, eq-eqb, ne-eqb, ltb-true, ltb-false, leb-true, leb-false, eqb-true, eqb-false, not-false}
+use Rattle.meaning.specs.Filter.{Edge, Filter, states, inside, comesBefore, samePlace, allInside, leads, ascending, inOrder}
+use Rattle.file.specs.declared.Profile.{Profile}
+use Rattle.file.specs.Layout.{headerBits, edgesBegin, fileBits, bytesFor, fileLength, lengthOf}
+use Rattle.file.specs.Contents.{statesIn, labelsIn, startIn, countIn, coloursIn, edgesIn, filterIn, lengthIn, fillingIn}
+use Rattle.file.specs.Answers.{Outcome, accepted, refused}
+use Rattle.file.specs.Refusals.{Test, test, refuseIf, firstOf, faultIf, orderFault, edgeFault, Fault, faultAt, firstFault, edgesThen, placeInFile, placeInList, fileTests, numbersIn, fromEdges, checkOf, within, allBelow, holdable, writeTests, roomTest, writeOf}
+
+pub clash : {A : Type 0} → _≡_ {A = ℕ} 0 1 → A
+clash z = let no : ⊥ = omega arith in absurd no
+
+-- ---- tests in a row
+
+-- None of the tests is given.
+abbrev pub Passed : List Test → Type 0
+Passed [] = Unit {0}
+Passed (t ∷ ts) = (t .given ≡ false) × Passed ts
+
+refuse-accepted : (b : Bool) (k p : ℕ) (next : Outcome) (vs : List ℕ) → refuseIf b (refused k p) next ≡ accepted vs → (b ≡ false) × (next ≡ accepted vs)
+refuse-accepted true k p next vs h = clash cc
+refuse-accepted false k p next vs h = (refl, h)
+
+pub first-accepted : (ts : List Test) (next : Outcome) (vs : List ℕ) → firstOf ts next ≡ accepted vs → Passed ts × (next ≡ accepted vs)
+first-accepted [] next vs h = (tt, h)
+first-accepted (t ∷ ts) next vs h =
+    let a = refuse-accepted (t .given) (t .number) 0 (firstOf ts next) vs h in
+    let b = first-accepted ts next vs (a .1) in
+    ((a .0, b .0), b .1)
+
+pub first-passed : (ts : List Test) (next : Outcome) → Passed ts → firstOf ts next ≡ next
+first-passed [] next p = refl
+first-passed (t ∷ ts) next p = rw (p .0) (first-passed ts next (p .1))
+
+-- ---- edges
+
+none-some : {A : Type 0} (k : ℕ) → _≡_ {A = Option ℕ} (some k) none → A
+none-some k h = clash cc
+
+pub edges-accepted : (place : ℕ → ℕ) (f : Option Fault) (next : Outcome) (vs : List ℕ) → edgesThen place f next ≡ accepted vs → (f ≡ none) × (next ≡ accepted vs)
+edges-accepted place none next vs h = (refl, h)
+edges-accepted place (some f) next vs h = clash cc
+
+order : (x y : ℕ) → y ≤ x → (x ≡ y → ⊥) → y < x
+order x y h n = go (ltb y x) refl
+  where
+    go : (t : Bool) → ltb y x ≡ t → y < x
+    go true e = ltb-true y x e
+    go false e = absurd (n (omega (arith, ltb-false y x e)))
+
+-- an edge that does not come before another and is not at its place comes after it
+after : (a b : Edge) → comesBefore a b ≡ false → samePlace a b ≡ false → comesBefore b a ≡ true
+unfolding comesBefore samePlace
+after a b h k = go (ltb (b .source) (a .source)) refl
+  where
+    go : (t : Bool) → ltb (b .source) (a .source) ≡ t → ltb (b .source) (a .source) || (eqb (b .source) (a .source) && ltb (b .label) (a .label)) ≡ true
+    go true e = rw e
+    go false e = low (ltb (a .source) (b .source)) refl
+      where
+        low : (t : Bool) → ltb (a .source) (b .source) ≡ t → ltb (b .source) (a .source) || (eqb (b .source) (a .source) && ltb (b .label) (a .label)) ≡ true
+        low true f = let z : true ≡ false = rw f at h in clash cc
+        low false f =
+            let s : a .source ≡ b .source = omega (arith, ltb-false (b .source) (a .source) e, ltb-false (a .source) (b .source) f) in
+            let s1 : eqb (a .source) (b .source) ≡ true = eq-eqb _ _ s in
+            let s2 : eqb (b .source) (a .source) ≡ true = eq-eqb _ _ (sym s) in
+            let l1 : ltb (a .label) (b .label) ≡ false = rw (f, s1) at h in
+            let l2 : eqb (a .label) (b .label) ≡ false = rw s1 at k in
+            let l : b .label < a .label = order (a .label) (b .label) (ltb-false (a .label) (b .label) l1) (eqb-false (a .label) (b .label) l2) in
+            rw (e, s2) (lt-ltb _ _ l)
+
+if-clear : (b : Bool) (k : ℕ) (next : Option ℕ) → faultIf b k next ≡ none → (b ≡ false) × (next ≡ none)
+if-clear true k next h = none-some k h
+if-clear false k next h = (refl, h)
+
+order-clear : (e b : Edge) → orderFault (some b) e ≡ none → comesBefore b e ≡ true
+order-clear e b h =
+    let p = if-clear (comesBefore e b) 8 _ h in
+    let q = if-clear (samePlace e b) 9 none (p .1) in
+    after e b (p .0) (q .0)
+
+inside-clear : (n m : ℕ) (before : Option Edge) (e : Edge) → edgeFault n m before e ≡ none → (inside n m e ≡ true) × (orderFault before e ≡ none)
+unfolding edgeFault
+inside-clear n m before e h =
+    let p = if-clear (not (inside n m e)) 7 _ h in
+    (not-false (inside n m e) (p .0), p .1)
+
+at-clear : (i : ℕ) (f : Option ℕ) (next : Option Fault) → faultAt i f next ≡ none → (f ≡ none) × (next ≡ none)
+at-clear i none next h = (refl, h)
+at-clear i (some k) next h = clash cc
+
+clear-first : (n m i : ℕ) (before : Option Edge) (e : Edge) (es : List Edge) → firstFault n m before i (e ∷ es) ≡ none →
+    (edgeFault n m before e ≡ none) × (firstFault n m (some e) (suc i) es ≡ none)
+unfolding firstFault
+clear-first n m i before e es h = at-clear i (edgeFault n m before e) _ h
+
+-- edges without a fault are inside and ascend strictly
+pub record InOrder (n m : ℕ) (before : Option Edge) (es : List Edge) : Type 0 where
+  pub all-inside : allInside n m es ≡ true
+  pub ascend : ascending es ≡ true
+  pub lead : (b : Edge) → before ≡ some b → leads b es ≡ true
+
+pub fault-free : (n m i : ℕ) (before : Option Edge) (es : List Edge) → firstFault n m before i es ≡ none → InOrder n m before es
+unfolding allInside ascending leads
+fault-free n m i before [] h = record { all-inside = refl; ascend = refl; lead = λ b e. refl }
+fault-free n m i before (e ∷ es) h =
+    let c = clear-first n m i before e es h in
+    let q = inside-clear n m before e (c .0) in
+    let r = fault-free n m (suc i) (some e) es (c .1) in
+    record {
+      all-inside = rw (q .0) (r .all-inside);
+      ascend = rw (r .lead e refl) (r .ascend);
+      lead = λ b p. order-clear e b (rw p at (q .1));
+    }
+
+-- ---- a file
+
+-- What an accepted file has passed.
+pub record Sound (P : Profile) (s : List ℕ) : Type 0 where
+  pub begins : bytesFor (headerBits P) ≤ length s
+  pub start-in : startIn P s < statesIn P s
+  pub count-in : countIn P s ≤ statesIn P s * labelsIn P s
+  pub long : length s ≡ lengthIn P s
+  pub filled : fillingIn P s ≡ 0
+  pub clear : firstFault (statesIn P s) (labelsIn P s) none 0 (edgesIn P s) ≡ none
+
+pub check-sound : (P : Profile) (s vs : List ℕ) → checkOf P s ≡ accepted vs → Sound P s × (numbersIn P s ≡ vs)
+unfolding checkOf fileTests
+check-sound P s vs h =
+    let p = first-accepted (fileTests P s) (fromEdges P s) vs h in
+    let t = p .0 in
+    let q = edges-accepted placeInFile (firstFault (statesIn P s) (labelsIn P s) none 0 (edgesIn P s)) (accepted (numbersIn P s)) vs (p .1) in (
+      record {
+        begins = ltb-false (length s) (bytesFor (headerBits P)) (t .0);
+        start-in = leb-false (statesIn P s) (startIn P s) (t .1 .0);
+        count-in = ltb-false (statesIn P s * labelsIn P s) (countIn P s) (t .1 .1 .0);
+        long = omega (arith, ltb-false (length s) (lengthIn P s) (t .1 .1 .1 .0), ltb-false (lengthIn P s) (length s) (t .1 .1 .1 .1 .0));
+        filled = eqb-true (fillingIn P s) 0 (not-false (eqb (fillingIn P s) 0) (t .1 .1 .1 .1 .1 .0));
+        clear = q .0;
+      },
+      cc (q .1),
+    )
+
+pub sound-check : (P : Profile) (s : List ℕ) → Sound P s → checkOf P s ≡ accepted (numbersIn P s)
+unfolding checkOf fileTests
+sound-check P s h =
+    let e : eqb (fillingIn P s) 0 ≡ true = eq-eqb (fillingIn P s) 0 (h .filled) in
+    first-passed (fileTests P s) (fromEdges P s)
+    (le-ltb _ _ (h .begins), (lt-leb _ _ (h .start-in), (le-ltb _ _ (h .count-in), (le-ltb (length s) (lengthIn P s) (omega (arith, h .long)), (le-ltb (lengthIn P s) (length s) (omega (arith, h .long)), (rw e, tt))))))
+    ∙ rw (h .clear)
+
+-- ---- lists
+
+-- What accepted lists have passed, apart from the room.
+pub record Writable (P : Profile) (F : Filter) : Type 0 where
+  pub states-low : 1 ≤ states F
+  pub states-high : states F ≤ 2 ^ P .states
+  pub labels-low : 1 ≤ F .labels
+  pub labels-high : F .labels ≤ 2 ^ P .labels
+  pub colours-below : allBelow (2 ^ P .colour) (F .colours) ≡ true
+  pub start-in : F .start < states F
+  pub count-in : length (F .edges) ≤ states F * F .labels
+  pub clear : firstFault (states F) (F .labels) none 0 (F .edges) ≡ none
+
+pub and-left : (a b : Bool) → a && b ≡ true → a ≡ true
+and-left true b h = refl
+and-left false b h = clash cc
+
+pub and-right : (a b : Bool) → a && b ≡ true → b ≡ true
+and-right true b h = h
+and-right false b h = clash cc
+
+-- what the widths can hold
+pub record Held (P : Profile) (colours : List ℕ) (m : ℕ) : Type 0 where
+  pub states-low : 1 ≤ length colours
+  pub states-high : length colours ≤ 2 ^ P .states
+  pub labels-low : 1 ≤ m
+  pub labels-high : m ≤ 2 ^ P .labels
+  pub colours-below : allBelow (2 ^ P .colour) colours ≡ true
+
+pub held : (P : Profile) (colours : List ℕ) (m : ℕ) → holdable P colours m ≡ true → Held P colours m
+unfolding holdable
+held P colours m h =
+    let ns = and-left (within 1 (2 ^ P .states) (length colours)) _ h in
+    let rest = and-right (within 1 (2 ^ P .states) (length colours)) _ h in
+    let ms = and-left (within 1 (2 ^ P .labels) m) _ rest in
+    record {
+      states-low = leb-true 1 (length colours) (and-left (leb 1 (length colours)) _ ns);
+      states-high = leb-true (length colours) (2 ^ P .states) (and-right (leb 1 (length colours)) _ ns);
+      labels-low = leb-true 1 m (and-left (leb 1 m) _ ms);
+      labels-high = leb-true m (2 ^ P .labels) (and-right (leb 1 m) _ ms);
+      colours-below = and-right (within 1 (2 ^ P .labels) m) _ rest;
+    }
+
+pub record Written (P : Profile) (F : Filter) (whole : Bool) (room : ℕ) (vs : List ℕ) : Type 0 where
+  pub writable : Writable P F
+  pub is-whole : whole ≡ true
+  pub roomy : lengthOf P F ≤ room
+  pub are : lengthOf P F ∷ [] ≡ vs
+
+pub write-written : (P : Profile) (F : Filter) (whole : Bool) (room : ℕ) (vs : List ℕ) → writeOf P F whole room ≡ accepted vs → Written P F whole room vs
+unfolding writeOf writeTests
+write-written P F whole room vs h =
+    let p = first-accepted (writeTests P F whole) _ vs h in
+    let t = p .0 in
+    let q = edges-accepted placeInList (firstFault (states F) (F .labels) none 0 (F .edges)) _ vs (p .1) in
+    let r = first-accepted (roomTest P F room) (accepted (lengthOf P F ∷ [])) vs (q .1) in
+    let hold = holdable P (F .colours) (F .labels) in
+    let a : hold && whole ≡ true = not-false (hold && whole) (t .0) in
+    let k = held P (F .colours) (F .labels) (and-left hold whole a) in
+    record {
+      writable = record {
+        states-low = k .states-low;
+        states-high = k .states-high;
+        labels-low = k .labels-low;
+        labels-high = k .labels-high;
+        colours-below = k .colours-below;
+        start-in = leb-false (states F) (F .start) (t .1 .0);
+        count-in = ltb-false (states F * F .labels) (length (F .edges)) (t .1 .1 .0);
+        clear = q .0;
+      };
+      is-whole = and-right hold whole a;
+      roomy = ltb-false room (lengthOf P F) (r .0 .0);
+      are = cc (r .1);
+    }
+
+pub writable-write : (P : Profile) (F : Filter) (room : ℕ) → Writable P F → lengthOf P F ≤ room → writeOf P F true room ≡ accepted (lengthOf P F ∷ [])
+unfolding writeOf writeTests holdable
+writable-write P F room w l =
+    simp (
+      le-leb _ _ (w .states-low),
+      le-leb _ _ (w .states-high),
+      le-leb _ _ (w .labels-low),
+      le-leb _ _ (w .labels-high),
+      w .colours-below,
+      lt-leb _ _ (w .start-in),
+      le-ltb _ _ (w .count-in),
+      w .clear,
+      le-ltb _ _ l,
+    )

@@ -1,0 +1,157 @@
+-- `file::unpack_as` meets its contract: the check's answer decides, then the rooms, and then both are filled. Assumes nothing.
+use mathlib.Core.Path.{_≡_, ap, sym, _∙_}
+use mathlib.Core.List.{List, _++_}
+use Prim.Native.Nat.{ℕ, _*_, _≤_}
+use native.Mathlib.Nat.{mul-comm}
+use native.Mathlib.Omega.{arith}
+use borrow.Author.Needs.{needs}
+use denote.Ref.{now}
+use lib.ListN.{length, drop, replicate}
+use Rattle.bits.specs.Bits.{fields}
+use Rattle.file.specs.declared.Profile.{Profile}
+use Rattle.file.specs.declared.Reading.{Reading}
+use Rattle.file.specs.Layout.{headerBits, edgesBegin, flat}
+use Rattle.file.specs.Contents.{statesIn, countIn, coloursIn, edgesFrom, edgesIn}
+use Rattle.file.specs.Refusals.{laid}
+use Rattle.file.proofs.Bounds.{states-high, count-high, colours-high}
+use Rattle.file.proofs.EdgeLists.{length-flat}
+use Rattle.file.proofs.Files.{length-colours, length-edges-in}
+use Rattle.file.proofs.Calls.{ReadIs, read-is, unpack-refused, short-colours, short-edges, unpack-filled, colours-laid, edges-laid}
+use Rattle.file.proofs.unpack_as.Statement.{statement}
+use Rattle.file.proofs.unpack_as.Tie as tie
+use Rattle.file.proofs.unpack_as.Reads as reads
+use Rattle.file.proofs.unpack_as.Lts as lts
+use Rattle.bits.proofs.get_run.Reads as get-run-reads
+use Rattle.file.proofs.check_as.Reads as check-as-reads
+use Rattle.file.proofs.edges.get.Reads as get-reads
+use Rattle.file.proofs.layout.edges_begin.Reads as edges-begin-reads
+use Rattle.file.proofs.layout.header_bits.Reads as header-bits-reads
+use Rattle.file.proofs.passed_on.Reads as passed-on-reads
+
+-- ---- the places of the code, back to the start
+
+abbrev started : tie.After-check-as → tie.Start
+started c = c .before .before .before .before
+
+abbrev checked₁ : tie.After-known-told → tie.After-check-as
+checked₁ c = c .before .before .before
+
+abbrev P : tie.After-check-as → Profile
+P c = started c .args .p
+
+abbrev file : tie.After-check-as → List ℕ
+file c = now (started c .args .file)
+
+abbrev reading : tie.After-known-told → Reading
+reading c = c .before .answer .given .0 .0
+
+is-read : (c : tie.After-known-told) → ReadIs (P (checked₁ c)) (file (checked₁ c)) (reading c)
+is-read c = let k = checked₁ c in read-is (P k) (file k) (k .check-as .result) (k .check-as .ensures) (reading c) (c .before .answer .given .1)
+
+record Small (r : Reading) : Type 0 where
+  states≤ : r .states ≤ 256
+  count≤ : r .edges ≤ 65536
+
+small : (c : tie.After-known-told) → Small (reading c)
+small c =
+    let k = checked₁ c in
+    record {
+      states≤ = omega (arith, is-read c .states-are, states-high (P k) (started k .pre) (file k));
+      count≤ = omega (arith, is-read c .count-is, count-high (P k) (started k .pre) (file k));
+    }
+
+check-as-requires : tie.Need-check-as-requires
+check-as-requires c κs = search needs
+
+enum-known-answer : tie.Need-enum-known-answer
+enum-known-answer c = search needs
+
+enum-told : tie.Need-enum-told
+enum-told c = search needs
+
+passed-on-requires : tie.Need-passed-on-requires
+passed-on-requires c κs = search needs
+
+returns : tie.Need-returns
+returns c =
+    let k = c .before .before .before in
+    unpack-refused (P k) (file k) (k .check-as .result) (k .check-as .ensures) (now (started k .args .colours)) (now (started k .args .edges))
+    (c .before .enum-told .given .0 .0) (c .passed-on .result) (c .before .enum-told .given .1) (c .passed-on .ensures)
+
+returns-2 : tie.Need-returns-2
+returns-2 c =
+    let k = checked₁ (c .before) in
+    short-colours (P k) (file k) (k .check-as .result) (k .check-as .ensures) (now (started k .args .colours)) (now (started k .args .edges))
+    (reading (c .before)) (c .before .before .answer .given .1) (c .if1 .taken)
+
+mul-if2 : tie.Need-mul-if2
+mul-if2 c = omega (arith, small (c .before) .count≤)
+
+returns-3 : tie.Need-returns-3
+returns-3 c =
+    let k = checked₁ (c .before .before) in
+    short-edges (P k) (file k) (k .check-as .result) (k .check-as .ensures) (now (started k .args .colours)) (now (started k .args .edges))
+    (reading (c .before .before)) (c .before .before .before .answer .given .1) (c .if2 .taken)
+
+header-bits-requires : tie.Need-header-bits-requires
+header-bits-requires c κs = search needs
+
+get-run-requires : tie.Need-get-run-requires
+get-run-requires c κs =
+    let told = c .before .before .before .before in
+    let k = checked₁ told in
+    let ok = started k .pre in
+    (ok .colour≤, c .before .before .before .if1 .left, omega (arith, c .before .header-bits .ensures .1, mul-comm (reading told .states) (P k .colour), colours-high (P k) ok (reading told .states) (small told .states≤)))
+
+edges-begin-requires : tie.Need-edges-begin-requires
+edges-begin-requires c κs =
+    let told = c .before .before .before .before .before .before .before in
+    (started (checked₁ told) .pre, small told .states≤)
+
+get-requires : tie.Need-get-requires
+get-requires c κs =
+    let told = c .before .before .before .before .before .before .before .before .before in
+    (started (checked₁ told) .pre, c .before .edges-begin .ensures .1, small told .count≤, c .before .before .before .before .before .before .before .if2 .left)
+
+same-length : tie.Need-same-length
+same-length c = search needs
+
+same-length-2 : tie.Need-same-length-2
+same-length-2 c = search needs
+
+returns-4 : tie.Need-returns-4
+returns-4 c =
+    let get = c .before .before in
+    let run = c .before .before .before .before .before .before .before in
+    let told = run .before .before .before .before .before in
+    let k = checked₁ told in
+    let is = is-read told in
+    let colours = now (started k .args .colours) in
+    let edges = now (started k .args .edges) in
+    let cs : run .get-run .last .1 .1 .1 .1 .0 ≡ laid (coloursIn (P k) (file k)) colours =
+    run .get-run .ensures ∙ colours-laid (P k) (file k) colours (run .before .before .header-bits .result) (reading told .states) (run .before .before .header-bits .ensures .0) (is .states-are) in
+    let es : get .get .last .1 .1 .1 .1 .0 ≡ laid (flat (edgesIn (P k) (file k))) edges =
+    get .get .ensures ∙ edges-laid (P k) (file k) edges (get .before .before .edges-begin .result) (reading told .states) (reading told .edges) (get .before .before .edges-begin .ensures .0) (is .states-are) (is .count-is) in
+    rw (cs, es)
+    (unpack-filled (P k) (file k) (k .check-as .result) (k .check-as .ensures) colours edges (reading told) (told .before .answer .given .1)
+    (run .before .before .before .before .if1 .left) (run .before .before .before .if2 .left))
+
+pub unpack-as-spec : {M : Type 1} → statement M
+unpack-as-spec =
+    tie.close
+    (tie.spec
+    check-as-requires
+    enum-known-answer
+    enum-told
+    passed-on-requires
+    returns
+    returns-2
+    mul-if2
+    returns-3
+    header-bits-requires
+    get-run-requires
+    edges-begin-requires
+    get-requires
+    same-length
+    same-length-2
+    returns-4)

@@ -1,0 +1,6 @@
+pub mod Layout
+pub mod Contents
+pub mod Answers
+pub mod Refusals
+pub mod Verdicts
+pub mod Promise

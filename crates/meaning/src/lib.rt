@@ -1,0 +1,1 @@
+// Definitions alone: what the words of the scope mean. They stand in specs/.

@@ -1,0 +1,146 @@
+//! The filter file: fields one after another, most significant bit first, no gaps.
+
+use crate::bits::{bytes_of, push, Bits};
+
+/// Why a call says no. Only 7, 8 and 9 have a place other than 0.
+#[derive(Clone, Copy, Debug, PartialEq, Eq)]
+pub struct Refusal {
+    pub number: u8,
+    pub place: u64,
+}
+
+impl Refusal {
+    pub fn new(number: u8) -> Refusal {
+        Refusal { number, place: 0 }
+    }
+}
+
+#[derive(Clone, Copy, Debug, PartialEq, Eq)]
+pub struct Edge {
+    pub source: u64,
+    pub label: u64,
+    pub target: u64,
+}
+
+/// What a file holds. Nothing here keeps it in bounds: the generator also writes filters that must be refused.
+#[derive(Clone, Debug, PartialEq, Eq)]
+pub struct Filter {
+    pub colours: Vec<u64>,
+    pub m: u64,
+    pub start: u64,
+    pub edges: Vec<Edge>,
+}
+
+impl Filter {
+    pub fn n(&self) -> u64 {
+        self.colours.len() as u64
+    }
+
+    pub fn e(&self) -> u64 {
+        self.edges.len() as u64
+    }
+}
+
+/// The bytes that a file of n states and e edges has.
+pub fn length(n: u64, e: u64) -> u64 {
+    (37 + 6 * n + 22 * e).div_ceil(8)
+}
+
+/// Reads a file, or says why not.
+pub fn read(bytes: &[u8]) -> Result<Filter, Refusal> {
+    if bytes.len() < 5 {
+        return Err(Refusal::new(1));
+    }
+    let mut bits = Bits::of(bytes);
+    let n = bits.eat(8) + 1;
+    let m = bits.eat(6) + 1;
+    let start = bits.eat(8);
+    let e = bits.eat(15);
+    if start >= n {
+        return Err(Refusal::new(2));
+    }
+    if e > n * m {
+        return Err(Refusal::new(3));
+    }
+    let have = bytes.len() as u64;
+    if have < length(n, e) {
+        return Err(Refusal::new(4));
+    }
+    if have > length(n, e) {
+        return Err(Refusal::new(5));
+    }
+    let mut colours = Vec::new();
+    for _ in 0..n {
+        colours.push(bits.eat(6));
+    }
+    let mut edges = Vec::new();
+    for _ in 0..e {
+        let source = bits.eat(8);
+        let label = bits.eat(6);
+        let target = bits.eat(8);
+        edges.push(Edge {
+            source,
+            label,
+            target,
+        });
+    }
+    if bits.rest().contains(&true) {
+        return Err(Refusal::new(6));
+    }
+    judge_edges(&edges, n, m)?;
+    Ok(Filter {
+        colours,
+        m,
+        start,
+        edges,
+    })
+}
+
+/// The first faulty edge decides, and within it 7, 8, 9.
+pub fn judge_edges(edges: &[Edge], n: u64, m: u64) -> Result<(), Refusal> {
+    for (i, edge) in edges.iter().enumerate() {
+        let fault = |number| {
+            Err(Refusal {
+                number,
+                place: i as u64,
+            })
+        };
+        if edge.source >= n || edge.target >= n || edge.label >= m {
+            return fault(7);
+        }
+        if i > 0 {
+            let before = (edges[i - 1].source, edges[i - 1].label);
+            let own = (edge.source, edge.label);
+            if own < before {
+                return fault(8);
+            }
+            if own == before {
+                return fault(9);
+            }
+        }
+    }
+    Ok(())
+}
+
+/// Writes the fields as they are; it judges nothing.
+pub fn write(filter: &Filter) -> Vec<u8> {
+    bytes_of(&fields(filter, filter.e()))
+}
+
+/// All bits of the file but the filling ones, with `e` as the header's number of edges.
+pub fn fields(filter: &Filter, e: u64) -> Vec<bool> {
+    let mut row = Vec::new();
+    push(&mut row, filter.n() - 1, 8);
+    push(&mut row, filter.m - 1, 6);
+    push(&mut row, filter.start, 8);
+    push(&mut row, e, 15);
+    for &colour in &filter.colours {
+        push(&mut row, colour, 6);
+    }
+    for edge in &filter.edges {
+        push(&mut row, edge.source, 8);
+        push(&mut row, edge.label, 6);
+        push(&mut row, edge.target, 8);
+    }
+    row
+}

@@ -1,0 +1,133 @@
+//! Edges made faulty, in filters that were in order.
+
+use crate::file::Filter;
+use crate::make::filters::damageable;
+use crate::random::Random;
+
+#[derive(Clone, Copy, Debug, PartialEq, Eq)]
+pub enum Damage {
+    Source,
+    Label,
+    Target,
+    Before,
+    EqualSameTarget,
+    EqualOtherTarget,
+}
+
+impl Damage {
+    pub const ALL: [Damage; 6] = [
+        Damage::Source,
+        Damage::Label,
+        Damage::Target,
+        Damage::Before,
+        Damage::EqualSameTarget,
+        Damage::EqualOtherTarget,
+    ];
+
+    /// The refusal it leads to.
+    pub fn number(self) -> u8 {
+        match self {
+            Damage::Source | Damage::Label | Damage::Target => 7,
+            Damage::Before => 8,
+            Damage::EqualSameTarget | Damage::EqualOtherTarget => 9,
+        }
+    }
+
+    /// The first edge that can have it.
+    pub fn earliest(self) -> usize {
+        if self.number() == 7 {
+            0
+        } else {
+            1
+        }
+    }
+
+    /// The earliest, a middle and the last edge, of at least four.
+    pub fn places(self, filter: &Filter) -> [usize; 3] {
+        let e = filter.edges.len();
+        [self.earliest(), e / 2, e - 1]
+    }
+
+    /// Makes edge `at` faulty and leaves those before it in order. `top_label` is the most that a label's field holds.
+    pub fn apply(self, filter: &mut Filter, at: usize, top_label: u64, random: &mut Random) {
+        let n = filter.n();
+        let m = filter.m;
+        let edges = &mut filter.edges;
+        match self {
+            Damage::Source => edges[at].source = outside(random, n, 255),
+            Damage::Label => edges[at].label = outside(random, m, top_label),
+            Damage::Target => edges[at].target = outside(random, n, 255),
+            Damage::Before => edges.swap(at - 1, at),
+            Damage::EqualSameTarget => edges[at] = edges[at - 1],
+            Damage::EqualOtherTarget => {
+                let before = edges[at - 1];
+                edges[at] = before;
+                edges[at].target = (before.target + random.between(1, n - 1)) % n;
+            }
+        }
+    }
+}
+
+/// Gives one edge a fault of this number, 7 to 9.
+pub fn damage_one(filter: &mut Filter, number: u8, top_label: u64, random: &mut Random) {
+    let kinds: Vec<Damage> = Damage::ALL
+        .into_iter()
+        .filter(|damage| damage.number() == number)
+        .collect();
+    let damage = random.pick(&kinds);
+    let at = random.pick(&damage.places(filter));
+    damage.apply(filter, at, top_label, random);
+}
+
+/// Each damage in the earliest, a middle and the last edge.
+pub fn one_faulty_edge(top_label: u64, random: &mut Random) -> Vec<Filter> {
+    let mut filters = Vec::new();
+    for damage in Damage::ALL {
+        for nth in 0..3 {
+            let mut filter = damageable(random);
+            let at = damage.places(&filter)[nth];
+            damage.apply(&mut filter, at, top_label, random);
+            filters.push(filter);
+        }
+    }
+    filters
+}
+
+/// 7 together with 8 or 9, in the earliest, a middle and the last edge that can have both.
+pub fn doubly_faulty_edge(top_label: u64, random: &mut Random) -> Vec<Filter> {
+    let mut filters = Vec::new();
+    for damage in [Damage::Before, Damage::EqualSameTarget] {
+        for nth in 0..3 {
+            let mut filter = damageable(random);
+            let at = damage.places(&filter)[nth];
+            damage.apply(&mut filter, at, top_label, random);
+            Damage::Target.apply(&mut filter, at, top_label, random);
+            filters.push(filter);
+        }
+    }
+    filters
+}
+
+/// Each damage in an edge and each in a later one.
+pub fn two_faulty_edges(top_label: u64, random: &mut Random) -> Vec<Filter> {
+    let mut filters = Vec::new();
+    for earlier in Damage::ALL {
+        for later in Damage::ALL {
+            let mut filter = damageable(random);
+            // Two apart, so that neither damage touches the other's edge.
+            let last = filter.edges.len() as u64 - 1;
+            let at = random.between(earlier.earliest() as u64, last - 2);
+            let behind = random.between(at + 2, last);
+            later.apply(&mut filter, behind as usize, top_label, random);
+            earlier.apply(&mut filter, at as usize, top_label, random);
+            filters.push(filter);
+        }
+    }
+    filters
+}
+
+/// The least number that is not allowed, the greatest that the field holds, or one between them.
+pub fn outside(random: &mut Random, limit: u64, top: u64) -> u64 {
+    let between = random.between(limit, top);
+    random.pick(&[limit, top, between])
+}

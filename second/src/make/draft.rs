@@ -1,0 +1,84 @@
+//! A file before it is written, which can be spoilt in several ways at once.
+
+use crate::bits::{bytes_of, free_bits, push};
+use crate::file::{fields, length, Edge, Filter};
+use crate::make::damage::{damage_one, outside};
+use crate::random::Random;
+
+pub struct Draft {
+    pub filter: Filter,
+    /// What the header says of the number of edges.
+    pub e: u64,
+    /// The filling bits, as many of the low ones as there is room for.
+    pub filling: u64,
+    /// The bytes that are kept, where the file is cut.
+    pub keep: Option<usize>,
+    /// The bytes that follow the file.
+    pub extra: Vec<u8>,
+}
+
+impl Draft {
+    pub fn of(filter: Filter) -> Draft {
+        Draft {
+            e: filter.e(),
+            filter,
+            filling: 0,
+            keep: None,
+            extra: Vec::new(),
+        }
+    }
+
+    pub fn bytes(&self) -> Vec<u8> {
+        let mut row = fields(&self.filter, self.e);
+        let free = free_bits(row.len());
+        push(&mut row, self.filling % (1 << free), free);
+        let mut bytes = bytes_of(&row);
+        if let Some(keep) = self.keep {
+            bytes.truncate(keep);
+        }
+        bytes.extend(&self.extra);
+        bytes
+    }
+
+    /// How many filling bits the file has.
+    pub fn free(&self) -> usize {
+        free_bits(fields(&self.filter, self.e).len())
+    }
+
+    /// Gives it the fault of this number, 1 to 9. For two at once: those of the header first, then the edges', then
+    /// the filling's, then the length's.
+    pub fn spoil(&mut self, number: u8, random: &mut Random) {
+        let n = self.filter.n();
+        let m = self.filter.m;
+        let have = length(n, self.filter.e());
+        match number {
+            1 => self.keep = Some(random.between(0, 4) as usize),
+            2 => self.filter.start = outside(random, n, 255),
+            3 => {
+                // The edges are there, so that the length is right and only their number is wrong.
+                self.e = n * m + random.between(1, 3);
+                while self.filter.e() < self.e {
+                    self.filter.edges.push(Edge {
+                        source: n - 1,
+                        label: m - 1,
+                        target: n - 1,
+                    });
+                }
+            }
+            4 => {
+                let shorter = random.between(5, have - 1);
+                self.keep = Some(random.pick(&[5, have - 1, shorter]) as usize);
+            }
+            5 => {
+                let more = random.between(1, 4) as usize;
+                self.extra = if random.once_in(2) {
+                    vec![0; more]
+                } else {
+                    random.bytes(more)
+                };
+            }
+            6 => self.filling = random.between(1, (1 << self.free()) - 1),
+            _ => damage_one(&mut self.filter, number, 63, random),
+        }
+    }
+}

@@ -1,0 +1,162 @@
+//! The batch that is stored beside `answers`: small, and the same in every run.
+
+use crate::call::check;
+use crate::case::Case;
+use crate::file::{length, write, Edge, Filter};
+use crate::rides::*;
+
+pub fn cases() -> Vec<Case> {
+    let mut cases = Vec::new();
+    for file in [A, B, C, D, E, F, G, H, K, K_REDUCED] {
+        cases.push(Case::check(file.to_vec()));
+    }
+    for (colours, edges) in [(2, 12), (3, 11), (3, 12), (5, 20)] {
+        cases.push(unpack(K, colours, edges));
+    }
+    cases.push(unpack(K_REDUCED, 2, 12));
+    cases.extend(ride_q());
+    for (file, colours, edges) in [
+        (K, K_COLOURS, K_EDGES),
+        (K_REDUCED, K_REDUCED_COLOURS, K_REDUCED_EDGES),
+    ] {
+        cases.push(pack(colours, edges, 2, 0, file.len()));
+        cases.push(pack(colours, edges, 2, 0, file.len() + 9));
+    }
+    cases.push(pack(K_COLOURS, K_EDGES, 2, 0, K.len() - 1));
+    for file in refused() {
+        cases.push(Case::check(file.clone()));
+        cases.push(unpack(&file, 3, 12));
+    }
+    cases.extend(refused_by_pack());
+    cases.extend(longer());
+    cases
+}
+
+/// A room as found: not of zeros, and no two bytes near each other alike.
+fn found(length: usize) -> Vec<u8> {
+    (0..length).map(|i| 0xa0 + (i % 89) as u8).collect()
+}
+
+fn unpack(file: &[u8], colours: usize, edges: usize) -> Case {
+    Case::unpack(file.to_vec(), found(colours), found(edges))
+}
+
+fn pack(colours: &[u8], edges: &[u8], m: u64, start: u64, room: usize) -> Case {
+    Case::pack(colours.to_vec(), edges.to_vec(), m, start, found(room))
+}
+
+fn ride_q() -> Vec<Case> {
+    vec![
+        pack(K_COLOURS, Q_LABEL_OUTSIDE, 2, 0, 10),
+        pack(K_COLOURS, Q_DESCENDING, 2, 0, 13),
+        pack(K_COLOURS, Q_REPEATED, 2, 0, 13),
+        pack(K_COLOURS, K_EDGES, 2, 3, 18),
+        pack(&[0, 64, 1], K_EDGES, 2, 0, 18),
+        pack(&[0; 257], K_EDGES, 2, 0, 209),
+    ]
+}
+
+/// A file for each refusal from 1 to 9, K spoilt where the rides have none.
+fn refused() -> Vec<Vec<u8>> {
+    let mut files: Vec<Vec<u8>> = [A, B, D, E, F, G, H].map(<[u8]>::to_vec).to_vec();
+    files.push(K[..17].to_vec());
+    let mut filling = K.to_vec();
+    filling[17] = 1;
+    files.push(filling);
+    for edges in [
+        // 7 by source, label and target; 8; 9 with other and with equal targets; 7 before 8 and 9 in one edge.
+        [[3, 0, 1], [0, 1, 2], [1, 0, 0], [2, 1, 0]],
+        [[0, 0, 1], [0, 2, 2], [1, 0, 0], [2, 1, 0]],
+        [[0, 0, 1], [0, 1, 2], [1, 0, 0], [2, 1, 3]],
+        [[0, 0, 1], [1, 0, 0], [0, 1, 2], [2, 1, 0]],
+        [[0, 0, 1], [0, 1, 2], [2, 1, 0], [2, 0, 0]],
+        [[0, 0, 1], [0, 1, 2], [0, 1, 1], [2, 1, 0]],
+        [[0, 0, 1], [0, 1, 2], [1, 0, 0], [1, 0, 0]],
+        [[0, 1, 1], [0, 0, 3], [1, 0, 0], [2, 1, 0]],
+        [[0, 1, 1], [0, 1, 3], [1, 0, 0], [2, 1, 0]],
+    ] {
+        files.push(write(&Filter {
+            colours: vec![0, 1, 1],
+            m: 2,
+            start: 0,
+            edges: edges
+                .iter()
+                .map(|&[source, label, target]| Edge {
+                    source,
+                    label,
+                    target,
+                })
+                .collect(),
+        }));
+    }
+    files
+}
+
+fn refused_by_pack() -> Vec<Case> {
+    let seven_edges = [
+        0, 0, 1, 0, 1, 2, 1, 0, 0, 1, 1, 0, 2, 0, 0, 2, 1, 0, 2, 1, 0,
+    ];
+    vec![
+        pack(&[], &[], 1, 0, 10),
+        pack(K_COLOURS, K_EDGES, 0, 0, 18),
+        pack(K_COLOURS, K_EDGES, 65, 0, 18),
+        pack(K_COLOURS, K_EDGES, (1 << 32) + 2, 0, 18),
+        pack(K_COLOURS, K_EDGES, u64::MAX, 0, 18),
+        pack(&[0, 1, 255], K_EDGES, 2, 0, 18),
+        pack(K_COLOURS, &K_EDGES[..10], 2, 0, 18),
+        pack(K_COLOURS, &K_EDGES[..11], 2, 0, 18),
+        pack(K_COLOURS, K_EDGES, 2, 1 << 32, 18),
+        pack(K_COLOURS, K_EDGES, 2, u64::MAX, 18),
+        pack(K_COLOURS, &seven_edges, 2, 0, 30),
+        pack(K_COLOURS, &[0, 0, 1, 3, 0, 0, 2, 1, 0], 2, 0, 20),
+        pack(K_COLOURS, &[0, 0, 1, 1, 0, 0, 2, 1, 3], 2, 0, 20),
+        pack(K_COLOURS, &[0, 0, 1, 1, 0, 0, 1, 0, 0], 2, 0, 20),
+        pack(K_COLOURS, K_EDGES, 2, 0, 0),
+        // Two at once: 14 and 2, 2 and 3, 3 and 7, 9 and 10.
+        pack(&[0, 64, 1], K_EDGES, 2, 3, 18),
+        pack(K_COLOURS, &seven_edges, 2, 3, 30),
+        pack(
+            K_COLOURS,
+            &[&[9, 9, 9], &seven_edges[..]].concat(),
+            2,
+            0,
+            30,
+        ),
+        pack(K_COLOURS, Q_REPEATED, 2, 0, 0),
+    ]
+}
+
+fn longer() -> Vec<Case> {
+    let mut cases = Vec::new();
+    for (n, m, e) in [(256, 1, 0), (256, 64, 3), (1, 64, 64), (20, 7, 140)] {
+        let filter = regular(n, m, e);
+        let file = write(&filter);
+        let (n, e) = (n as usize, e as usize);
+        let read = unpack(&file, n, 3 * e).outcome();
+        cases.push(Case::check(file.clone()));
+        cases.push(unpack(&file, n + 3, 3 * e + 5));
+        cases.push(unpack(&file, n - 1, 3 * e));
+        cases.push(pack(&read.b, &read.c, m, filter.start, file.len() + 7));
+    }
+    let largest = write(&regular(256, 64, 16_384));
+    assert_eq!(largest.len() as u64, length(256, 16_384));
+    assert_eq!(check(&largest).number, 0);
+    cases.push(Case::check(largest));
+    cases
+}
+
+/// The first e pairs of source and label, with colours and targets that go round.
+fn regular(n: u64, m: u64, e: u64) -> Filter {
+    Filter {
+        colours: (0..n).map(|state| state * 5 % 64).collect(),
+        m,
+        start: n - 1,
+        edges: (0..e)
+            .map(|pair| Edge {
+                source: pair / m,
+                label: pair % m,
+                target: (pair * 7 + 3) % n,
+            })
+            .collect(),
+    }
+}

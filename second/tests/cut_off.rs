@@ -1,0 +1,77 @@
+//! A batch that is cut off ends the outcomes of `answers` after the last whole case.
+
+mod common;
+
+use common::run_answers;
+use second::case::Case;
+use second::frame::{answer_batch, write_batch};
+use second::make::filters::largest;
+use second::random::Random;
+use second::rides::{A, K, K_COLOURS, K_EDGES};
+use second::{file, stored};
+
+fn agrees(batch: &[u8]) {
+    let ran = run_answers(batch.to_vec());
+    assert!(
+        ran.stdout == answer_batch(batch),
+        "{} bytes of a batch: {} bytes of outcomes instead of {}",
+        batch.len(),
+        ran.stdout.len(),
+        answer_batch(batch).len()
+    );
+    assert!(ran.status.success(), "{}", ran.status);
+}
+
+fn a_few() -> Vec<Case> {
+    vec![
+        Case::check(A.to_vec()),
+        Case::unpack(K.to_vec(), vec![0xee; 3], vec![0xee; 13]),
+        Case::pack(K_COLOURS.to_vec(), K_EDGES.to_vec(), 2, 0, vec![0xee; 19]),
+    ]
+}
+
+#[test]
+fn nothing_at_all() {
+    let ran = run_answers(Vec::new());
+    assert!(ran.stdout.is_empty());
+    assert!(ran.status.success(), "{}", ran.status);
+}
+
+#[test]
+fn every_beginning_of_a_batch() {
+    let batch = write_batch(&a_few());
+    for length in 0..=batch.len() {
+        agrees(&batch[..length]);
+    }
+}
+
+#[test]
+fn a_batch_without_cases() {
+    agrees(&write_batch(&[]));
+}
+
+#[test]
+fn fewer_cases_than_announced() {
+    let mut batch = write_batch(&a_few());
+    for count in [4, 1 << 32, 1 << 63, u64::MAX] {
+        batch[..8].copy_from_slice(&u64::to_be_bytes(count));
+        agrees(&batch);
+    }
+}
+
+#[test]
+fn cut_inside_long_strings() {
+    let mut random = Random::new(1);
+    let file = file::write(&largest(&mut random));
+    let mut cases = a_few();
+    cases.push(Case::unpack(file, vec![0xee; 256], vec![0xee; 49_152]));
+    let batch = write_batch(&cases);
+    for missing in [0, 1, 49_151, 49_152, 49_153, 49_500, 80_000, 94_600] {
+        agrees(&batch[..batch.len() - missing]);
+    }
+}
+
+#[test]
+fn the_stored_batch() {
+    agrees(&write_batch(&stored::cases()));
+}

@@ -1,0 +1,151 @@
+//! The generator makes what its families say, and the second program answers in document 01's order.
+
+use second::bits::{free_bits, Bits};
+use second::call::check;
+use second::case::{Call, Case};
+use second::file::{length, read, write};
+use second::make::damage::{one_faulty_edge, two_faulty_edges, Damage};
+use second::make::draft::Draft;
+use second::make::filters::shapes;
+use second::make::{files, lists};
+use second::random::Random;
+use std::collections::BTreeSet;
+
+const ROUNDS: u64 = 200;
+
+fn for_each_seed(what: impl Fn(&mut Random)) {
+    for seed in 0..ROUNDS {
+        what(&mut Random::new(seed));
+    }
+}
+
+#[test]
+fn accepted_files_are_accepted_and_come_back() {
+    for_each_seed(|random| {
+        for filter in shapes(random) {
+            let file = write(&filter);
+            assert_eq!(file.len() as u64, length(filter.n(), filter.e()));
+            assert_eq!(Draft::of(filter.clone()).bytes(), file);
+            assert_eq!(read(&file), Ok(filter));
+        }
+    });
+}
+
+#[test]
+fn one_fault_gives_its_number() {
+    for_each_seed(|random| {
+        let numbers: Vec<u8> = files::one_fault(random)
+            .iter()
+            .map(|file| check(file).number)
+            .collect();
+        assert_eq!(numbers, [1, 2, 3, 4, 5, 6, 7, 8, 9]);
+    });
+}
+
+/// In a file the numbers are in the order in which they are tested.
+#[test]
+fn of_two_faults_in_a_file_the_lower_number_comes() {
+    for_each_seed(|random| {
+        for (&(one, other), file) in files::PAIRS.iter().zip(files::two_faults(random)) {
+            assert_eq!(check(&file).number, one.min(other), "{one} and {other}");
+        }
+    });
+}
+
+#[test]
+fn of_two_faults_in_lists_the_first_of_the_pair_comes() {
+    for_each_seed(|random| {
+        for (&(first, second), case) in lists::PAIRS.iter().zip(lists::two_faults(random)) {
+            let number = case.outcome().answer.number;
+            assert_eq!(number, first, "{first} and {second}");
+        }
+    });
+}
+
+#[test]
+fn a_faulty_edge_is_named() {
+    for_each_seed(|random| {
+        let filters = one_faulty_edge(63, random);
+        for (i, filter) in filters.iter().enumerate() {
+            let damage = Damage::ALL[i / 3];
+            let place = damage.places(filter)[i % 3] as u64;
+            let answer = check(&write(filter));
+            assert_eq!((answer.number, answer.place), (damage.number(), place));
+        }
+    });
+}
+
+#[test]
+fn two_faults_in_an_edge_are_7() {
+    for_each_seed(|random| {
+        for file in files::two_faults_in_an_edge(random) {
+            assert_eq!(check(&file).number, 7);
+        }
+        for case in lists::two_faults_in_an_edge(random) {
+            assert_eq!(case.outcome().answer.number, 7);
+        }
+    });
+}
+
+#[test]
+fn the_earlier_of_two_faulty_edges_decides() {
+    for_each_seed(|random| {
+        for (i, filter) in two_faulty_edges(63, random).iter().enumerate() {
+            let earlier = Damage::ALL[i / Damage::ALL.len()];
+            let answer = check(&write(filter));
+            assert_eq!(answer.number, earlier.number());
+            assert!(answer.place + 2 < filter.e());
+        }
+    });
+}
+
+#[test]
+fn every_length_of_filling_comes_with_zeros_and_with_others() {
+    for_each_seed(|random| {
+        let mut seen = BTreeSet::new();
+        for file in files::fillings(random) {
+            let number = check(&file).number;
+            let mut bits = Bits::of(&file);
+            let n = bits.eat(8) + 1;
+            bits.eat(6 + 8);
+            let e = bits.eat(15);
+            seen.insert((free_bits((37 + 6 * n + 22 * e) as usize), number));
+        }
+        let all = [1, 3, 5, 7].map(|free| [(free, 0), (free, 6)]).concat();
+        assert_eq!(seen, BTreeSet::from_iter(all));
+    });
+}
+
+#[test]
+fn lists_outside_the_form_are_14_and_a_start_outside_is_2() {
+    let numbers = |cases: Vec<Case>| -> Vec<u8> {
+        cases
+            .iter()
+            .map(|case| case.outcome().answer.number)
+            .collect()
+    };
+    for_each_seed(|random| {
+        let outside = numbers(lists::outside_the_form(random));
+        assert!(outside.iter().all(|&number| number == 14));
+        for case in lists::start_outside(random) {
+            let number = case.outcome().answer.number;
+            assert_eq!(number == 2, case.second >= case.a.len() as u64);
+        }
+        let too_many = numbers(lists::one_edge_too_many(random));
+        assert!(too_many.iter().all(|&number| number == 3));
+    });
+}
+
+#[test]
+fn the_same_seed_makes_the_same_batch() {
+    let one = second::make::batch(&mut Random::new(7));
+    let other = second::make::batch(&mut Random::new(7));
+    assert_eq!(one.len(), other.len());
+    assert!(one
+        .iter()
+        .zip(&other)
+        .all(|(one, other)| one.case == other.case));
+    for call in Call::ALL {
+        assert!(one.iter().any(|made| made.case.call == call));
+    }
+}
