@@ -1,64 +1,85 @@
--- The marked rides, together: one claim over a list of them, about the definitions that the calls' contracts cite.
+-- The marked rides as far as checking, unpacking and packing go: one claim over a list of them, about the definitions that the
+-- calls' contracts cite.
 -- Assumes nothing.
 use Prim.Native.Nat.{ℕ}
 use mathlib.Core.Path.{_≡_, refl}
 use mathlib.Core.List.{List, [], _∷_, map}
-use Rattle.bits.specs.Bits.{bitAt, field, fields}
+use Rattle.bits.specs.Bits.{bitAt, field, splice, putBit, putField, fields, putFields}
 use Rattle.meaning.specs.Filter.{inside, comesBefore, samePlace}
-use Rattle.file.specs.Layout.{large, headerBits, edgeBits, edgesBegin, fileBits, bytesFor, fileLength, fillBits}
-use Rattle.file.specs.Contents.{statesIn, labelsIn, startIn, countIn, edgeAt, edgesFrom, edgesIn, lengthIn, fillingIn}
+use Rattle.file.specs.Layout.{large, headerBits, edgeBits, edgesBegin, fileBits, bytesFor, fileLength, fillBits, edgeWidths, fileWidths, flat, fileValues, lengthOf, written}
+use Rattle.file.specs.Contents.{statesIn, labelsIn, startIn, countIn, coloursIn, edgeAt, edgesFrom, edgesIn, filterIn, lengthIn, fillingIn}
 use Rattle.file.specs.Answers.{Outcome, accepted, refused}
-use Rattle.file.specs.Refusals.{edgeFault, firstFault, fileTests, checkOf}
+use Rattle.file.specs.Refusals.{edgeFault, firstFault, fileTests, checkOf, roomAfter}
 
--- The bytes of a file; a refusal, or n, m, start and e.
+-- The bytes of a file; a refusal, or n, m, start and e; and of an accepted file its colours, its edges as bytes, and the bytes
+-- that packing these gives.
 pub record Ride : Type 0 where
   pub file : List ℕ
   pub answer : Outcome
+  pub colours : List ℕ
+  pub edges : List ℕ
+  pub packed : List ℕ
+
+abbrev pub refusedRide : List ℕ → ℕ → Ride
+refusedRide file number = record { file = file; answer = refused number 0; colours = []; edges = []; packed = [] }
+
+abbrev pub acceptedRide : List ℕ → List ℕ → List ℕ → List ℕ → Ride
+acceptedRide file numbers colours edges = record { file = file; answer = accepted numbers; colours = colours; edges = edges; packed = file }
 
 abbrev pub A : Ride
-A = record { file = []; answer = refused 1 0 }
+A = refusedRide [] 1
 
 abbrev pub B : Ride
-B = record { file = 0x00 ∷ 0x00 ∷ 0x00 ∷ 0x00 ∷ 0x00 ∷ []; answer = refused 4 0 }
+B = refusedRide (0x00 ∷ 0x00 ∷ 0x00 ∷ 0x00 ∷ 0x00 ∷ []) 4
 
 abbrev pub C : Ride
-C = record { file = 0x00 ∷ 0x00 ∷ 0x00 ∷ 0x00 ∷ 0x00 ∷ 0x00 ∷ []; answer = accepted (1 ∷ 1 ∷ 0 ∷ 0 ∷ []) }
+C = acceptedRide (0x00 ∷ 0x00 ∷ 0x00 ∷ 0x00 ∷ 0x00 ∷ 0x00 ∷ []) (1 ∷ 1 ∷ 0 ∷ 0 ∷ []) (0 ∷ []) []
 
 abbrev pub D : Ride
-D = record { file = 0x00 ∷ 0x00 ∷ 0x00 ∷ 0x00 ∷ 0x00 ∷ 0x00 ∷ 0x00 ∷ []; answer = refused 5 0 }
+D = refusedRide (0x00 ∷ 0x00 ∷ 0x00 ∷ 0x00 ∷ 0x00 ∷ 0x00 ∷ 0x00 ∷ []) 5
 
 abbrev pub E : Ride
-E = record { file = 0x00 ∷ 0x00 ∷ 0x04 ∷ 0x00 ∷ 0x00 ∷ 0x00 ∷ []; answer = refused 2 0 }
+E = refusedRide (0x00 ∷ 0x00 ∷ 0x04 ∷ 0x00 ∷ 0x00 ∷ 0x00 ∷ []) 2
 
 abbrev pub F : Ride
-F = record { file = 0x00 ∷ 0x00 ∷ 0x00 ∷ 0x00 ∷ 0x10 ∷ 0x00 ∷ []; answer = refused 3 0 }
+F = refusedRide (0x00 ∷ 0x00 ∷ 0x00 ∷ 0x00 ∷ 0x10 ∷ 0x00 ∷ []) 3
 
 abbrev pub G : Ride
-G = record { file = 0x00 ∷ 0x00 ∷ 0x00 ∷ 0x00 ∷ 0x08 ∷ 0x00 ∷ []; answer = refused 4 0 }
+G = refusedRide (0x00 ∷ 0x00 ∷ 0x00 ∷ 0x00 ∷ 0x08 ∷ 0x00 ∷ []) 4
 
 abbrev pub H : Ride
-H = record { file = 0x00 ∷ 0x00 ∷ 0x00 ∷ 0x00 ∷ 0x00 ∷ 0x01 ∷ []; answer = refused 6 0 }
+H = refusedRide (0x00 ∷ 0x00 ∷ 0x00 ∷ 0x00 ∷ 0x00 ∷ 0x01 ∷ []) 6
 
 abbrev pub K : Ride
-K = record {
-  file = 0x02 ∷ 0x04 ∷ 0x00 ∷ 0x00 ∷ 0x20 ∷ 0x00 ∷ 0x82 ∷ 0x00 ∷ 0x00 ∷ 0x08 ∷ 0x00 ∷ 0x20 ∷ 0x40 ∷ 0x20 ∷ 0x00 ∷ 0x01 ∷ 0x02 ∷ 0x00 ∷ [];
-  answer = accepted (3 ∷ 2 ∷ 0 ∷ 4 ∷ []);
-}
+K =
+    acceptedRide
+    (0x02 ∷ 0x04 ∷ 0x00 ∷ 0x00 ∷ 0x20 ∷ 0x00 ∷ 0x82 ∷ 0x00 ∷ 0x00 ∷ 0x08 ∷ 0x00 ∷ 0x20 ∷ 0x40 ∷ 0x20 ∷ 0x00 ∷ 0x01 ∷ 0x02 ∷ 0x00 ∷ [])
+    (3 ∷ 2 ∷ 0 ∷ 4 ∷ [])
+    (0 ∷ 1 ∷ 1 ∷ [])
+    (0 ∷ 0 ∷ 1 ∷ 0 ∷ 1 ∷ 2 ∷ 1 ∷ 0 ∷ 0 ∷ 2 ∷ 1 ∷ 0 ∷ [])
 
 -- K reduced
 abbrev pub K′ : Ride
-K′ = record {
-  file = 0x01 ∷ 0x04 ∷ 0x00 ∷ 0x00 ∷ 0x20 ∷ 0x00 ∷ 0x80 ∷ 0x00 ∷ 0x02 ∷ 0x00 ∷ 0x08 ∷ 0x08 ∷ 0x08 ∷ 0x00 ∷ 0x00 ∷ 0x20 ∷ 0x80 ∷ 0x00 ∷ [];
-  answer = accepted (2 ∷ 2 ∷ 0 ∷ 4 ∷ []);
-}
+K′ =
+    acceptedRide
+    (0x01 ∷ 0x04 ∷ 0x00 ∷ 0x00 ∷ 0x20 ∷ 0x00 ∷ 0x80 ∷ 0x00 ∷ 0x02 ∷ 0x00 ∷ 0x08 ∷ 0x08 ∷ 0x08 ∷ 0x00 ∷ 0x00 ∷ 0x20 ∷ 0x80 ∷ 0x00 ∷ [])
+    (2 ∷ 2 ∷ 0 ∷ 4 ∷ [])
+    (0 ∷ 1 ∷ [])
+    (0 ∷ 0 ∷ 1 ∷ 0 ∷ 1 ∷ 1 ∷ 1 ∷ 0 ∷ 0 ∷ 1 ∷ 1 ∷ 0 ∷ [])
 
 abbrev pub rides : List Ride
 rides = A ∷ B ∷ C ∷ D ∷ E ∷ F ∷ G ∷ H ∷ K ∷ K′ ∷ []
 
--- A ride with what the definitions make of its file.
+-- A ride with what the definitions make of its file: what they would leave in empty rooms.
 unfoldable pub ridden : Ride → Ride
-ridden r = record { file = r .file; answer = checkOf large (r .file) }
+ridden r = record {
+  file = r .file;
+  answer = checkOf large (r .file);
+  colours = roomAfter (checkOf large (r .file)) (coloursIn large (r .file)) [];
+  edges = roomAfter (checkOf large (r .file)) (flat (edgesIn large (r .file))) [];
+  packed = roomAfter (checkOf large (r .file)) (written large (filterIn large (r .file))) [];
+}
 
 pub rides-hold : map ridden rides ≡ rides
-unfolding ridden bitAt field fields inside comesBefore samePlace headerBits edgeBits edgesBegin fileBits bytesFor fileLength fillBits statesIn labelsIn startIn countIn edgeAt edgesFrom edgesIn lengthIn fillingIn edgeFault firstFault fileTests checkOf
+unfolding ridden bitAt field splice putBit putField fields putFields inside comesBefore samePlace headerBits edgeBits edgesBegin fileBits bytesFor fileLength fillBits edgeWidths fileWidths flat fileValues lengthOf written statesIn labelsIn startIn countIn coloursIn edgeAt edgesFrom edgesIn filterIn lengthIn fillingIn edgeFault firstFault fileTests checkOf
 rides-hold = refl

@@ -1,16 +1,15 @@
 -- Sizes that the code meets: what the widths of a usable profile bound, and that a file's length is the least.
 -- Assumes nothing.
-use mathlib.Core.Path.{_≡_, refl}
 use mathlib.Core.List.{List}
-use Prim.Native.Nat.{ℕ, _+_, _*_, _-_, _/_, _^_, _≤_, _<_}
-use native.Mathlib.Nat.{mul-le-mul, lt-of-lt-of-le, le-trans}
+use Prim.Native.Nat.{ℕ, _+_, _*_, _-_, _^_, _≤_, _<_}
+use native.Mathlib.Nat.{mul-le-mul, lt-of-lt-of-le}
 use native.Mathlib.Omega.{arith}
 use lib.Dec.{lit≤, lit<}
 use lib.Pow.{pow-mono}
-use Rattle.bits.specs.Bits.{field}
 use Rattle.bits.proofs.Reading.{field-lt}
 use Rattle.file.specs.declared.Profile.{Profile}
-use Rattle.file.specs.Layout.{large, headerBits, edgeBits, edgesBegin, fileBits, bytesFor, fileLength, fillBits, Usable}
+use Rattle.file.specs.Layout.{large, headerBits, edgeBits, edgesBegin, fileBits, bytesFor, fileLength, fillBits}
+use Rattle.file.specs.Code.{Usable}
 use Rattle.file.specs.Contents.{statesIn, labelsIn, startIn, countIn}
 
 pub large-usable : Usable large

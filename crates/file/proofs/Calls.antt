@@ -23,10 +23,10 @@ use Rattle.file.specs.declared.Packed.the-variants as packed
 use Rattle.file.specs.Layout.{headerBits, edgesBegin, flat, written}
 use Rattle.file.specs.Contents.{statesIn, labelsIn, startIn, countIn, coloursIn, edgesFrom, edgesIn}
 use Rattle.file.specs.Answers.{Outcome, accepted, refused, readingOutcome, refusalOutcome, checkedOutcome, unpackedOutcome, packedOutcome}
-use Rattle.file.specs.Refusals.{checkOf, numbersIn, unpackOf, packOf, listed, laid}
+use Rattle.file.specs.Refusals.{andThen, checkOf, numbersIn, unpackTests, unpackOf, packOf, listed, laid}
 use Rattle.file.specs.Promise.{CheckPromise, UnpackPromise, PackPromise}
 use Rattle.file.proofs.EdgeLists.{length-flat}
-use Rattle.file.proofs.Tests.{clash, Sound, check-sound}
+use Rattle.file.proofs.Tests.{clash, first-accepted, Sound, check-sound}
 use Rattle.file.proofs.Files.{length-colours, length-edges-in}
 
 or-left : (a b : Bool) → a ≡ true → a || b ≡ true
@@ -48,6 +48,23 @@ coloured P s = refl
 edged : (P : Profile) (s : List ℕ) → edgesFrom P s (edgesBegin P (statesIn P s)) (countIn P s) ≡ edgesIn P s
 unfolding edgesIn
 edged P s = refl
+
+-- rooms that hold the lists pass unpack's test
+roomy : (P : Profile) (s : List ℕ) (c e : ℕ) → statesIn P s ≤ c → 3 * countIn P s ≤ e → ltb c (statesIn P s) || ltb e (3 * countIn P s) ≡ false
+roomy P s c e hc he = or-neither (ltb c (statesIn P s)) (ltb e (3 * countIn P s)) (le-ltb c (statesIn P s) hc) (le-ltb e (3 * countIn P s) he)
+
+pub unpack-accepts : (P : Profile) (s vs : List ℕ) (c e : ℕ) → checkOf P s ≡ accepted vs → statesIn P s ≤ c → 3 * countIn P s ≤ e → unpackOf P s c e ≡ accepted vs
+unfolding unpackOf
+unpack-accepts P s vs c e h hc he = rw (h, roomy P s c e hc he)
+
+-- an accepted unpacking is one of an accepted file
+pub unpack-checked : (P : Profile) (s vs : List ℕ) (c e : ℕ) → unpackOf P s c e ≡ accepted vs → checkOf P s ≡ accepted vs
+unfolding unpackOf
+unpack-checked P s vs c e h = go (checkOf P s) h
+  where
+    go : (o : Outcome) → andThen o (unpackTests P s c e) ≡ accepted vs → o ≡ accepted vs
+    go (accepted us) k = first-accepted (unpackTests P s c e) (accepted us) vs k .1
+    go (refused n p) k = clash cc
 
 -- The numbers of a reading are the file's.
 pub record ReadIs (P : Profile) (s : List ℕ) (r : Reading) : Type 0 where
@@ -101,13 +118,10 @@ module _ (P : Profile) (s : List ℕ) (a : Checked) (p : CheckPromise P s a) whe
 
       pub unpack-filled : r .states ≤ length colours → 3 * r .edges ≤ length edges →
           UnpackPromise P s colours edges (unpacked.Accepted r) (laid (coloursIn P s) colours) (laid (flat (edgesIn P s)) edges)
-      unfolding unpackOf
       unpack-filled lc le =
-          let k = read-is r e .answer in
-          let h : (ltb (length colours) (statesIn P s) || ltb (length edges) (3 * countIn P s)) ≡ false =
-          or-neither (ltb (length colours) (statesIn P s)) (ltb (length edges) (3 * countIn P s)) (le-ltb (length colours) (statesIn P s) (omega (arith, read-is r e .states-are)))
-          (le-ltb (length edges) (3 * countIn P s) (omega (arith, read-is r e .count-is))) in
-          record { answer = rw (k, h); colours-after = rw (k, h); edges-after = rw (k, h) }
+          let is = read-is r e in
+          let k = unpack-accepts P s _ (length colours) (length edges) (is .answer) (omega (arith, is .states-are)) (omega (arith, is .count-is)) in
+          record { answer = sym k; colours-after = rw k; edges-after = rw k }
 
 -- the colours and the edges as they are read, laid into the rooms
 pub colours-laid : (P : Profile) (s room : List ℕ) (at n : ℕ) → at ≡ headerBits P → n ≡ statesIn P s →

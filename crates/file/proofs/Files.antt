@@ -1,11 +1,11 @@
 -- The file as a run of fields: what is written is read, and what is read is written.
 -- Assumes nothing.
 use mathlib.Core.Path.{_≡_, refl, sym, ap, _∙_}
-use mathlib.Core.Bool.{Bool, true, false, _&&_}
+use mathlib.Core.Bool.{true, false, _&&_}
 use mathlib.Core.List.{List, [], _∷_, _++_}
-use mathlib.Core.Option.{Option, none, some}
-use Prim.Native.Nat.{ℕ, zero, suc, _+_, _*_, _-_, _/_, _^_, _≤_, _<_}
-use native.Mathlib.Nat.{zero-add, add-assoc, mul-comm, mul-le-mul, lt-of-lt-of-le, lt-of-le-of-lt, le-trans}
+use mathlib.Core.Option.{none}
+use Prim.Native.Nat.{ℕ, zero, suc, _+_, _*_, _-_, _^_, _≤_, _<_}
+use native.Mathlib.Nat.{zero-add, mul-comm, mul-le-mul, lt-of-lt-of-le, lt-of-le-of-lt, le-trans}
 use native.Mathlib.Omega.{arith}
 use lib.Dec.{ltb}
 use lib.ListN.{length, getD, take, drop, replicate, length-replicate, drop-of-length-le}
@@ -19,9 +19,10 @@ use Rattle.bits.proofs.Runs.{fields-append, length-fields, total-append, total-
 use Rattle.bits.proofs.Cover.{cover, bytes-replicate}
 use Rattle.meaning.specs.Filter.{Edge, Filter, states, inside, allInside}
 use Rattle.file.specs.declared.Profile.{Profile}
-use Rattle.file.specs.Layout.{headerBits, edgeBits, edgesBegin, fileBits, bytesFor, fileLength, fillBits, edgeWidths, fileWidths, flat, fileValues, lengthOf, written, Usable}
+use Rattle.file.specs.Layout.{headerBits, edgeBits, edgesBegin, fileBits, bytesFor, fileLength, fillBits, edgeWidths, fileWidths, flat, fileValues, lengthOf, written}
+use Rattle.file.specs.Code.{Usable}
 use Rattle.file.specs.Contents.{statesIn, labelsIn, startIn, countIn, coloursIn, edgesFrom, edgesIn, filterIn, lengthIn, fillingIn}
-use Rattle.file.specs.Refusals.{firstFault, allBelow, threes, laid}
+use Rattle.file.specs.Refusals.{allBelow, threes, laid}
 use Rattle.file.proofs.Bounds.{states-low, labels-low, states-fit, labels-fit, states-pow, labels-pow}
 use Rattle.file.proofs.EdgeLists.{fields-edges, length-edges, length-widths, total-edges, length-flat, threes-flat}
 use Rattle.file.proofs.Tests.{and-left, and-right, Sound, Writable, fault-free}

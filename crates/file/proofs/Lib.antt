@@ -4,3 +4,4 @@ pub mod Tests
 pub mod Files
 pub mod RoundTrip
 pub mod Calls
+pub mod Unique

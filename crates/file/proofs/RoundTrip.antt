@@ -1,28 +1,30 @@
 -- Packing what was unpacked gives the same bytes, and unpacking what was packed gives the same lists and numbers.
 -- First of the definitions, then of any answers and rooms that meet the two calls' promises.
 -- Assumes nothing.
-use mathlib.Core.Path.{_≡_, refl, sym, ap, _∙_}
+use mathlib.Core.Path.{_≡_, sym, ap, _∙_}
 use mathlib.Core.Bool.{true}
-use mathlib.Core.List.{List, [], _∷_, _++_}
+use mathlib.Core.List.{List, [], _∷_}
 use Prim.Native.Nat.{ℕ, _*_, _/_, _%_, _≤_}
 use native.Mathlib.Omega.{arith}
 use lib.Dec.{eqb}
 use lib.ListN.{length, take, drop}
 use lib.Seq.{take-at}
-use borrow.Author.Tests.{le-ltb, eq-eqb, eqb-true}
+use borrow.Author.Tests.{eq-eqb, eqb-true}
 use Rattle.bits.specs.Bits.{Bytes}
-use Rattle.meaning.specs.Filter.{Filter, states}
+use Rattle.meaning.specs.Filter.{inOrder}
 use Rattle.file.specs.declared.Profile.{Profile}
 use Rattle.file.specs.declared.Unpacked.{Unpacked}
 use Rattle.file.specs.declared.Packed.{Packed}
-use Rattle.file.specs.Layout.{fileLength, flat, lengthOf, written, Usable}
-use Rattle.file.specs.Contents.{statesIn, labelsIn, startIn, countIn, coloursIn, edgesIn, filterIn, lengthIn}
-use Rattle.file.specs.Answers.{Outcome, accepted, unpackedOutcome, packedOutcome}
-use Rattle.file.specs.Refusals.{andThen, checkOf, unpackTests, unpackOf, threes, listed, writeOf, packOf, numbersIn, laid}
+use Rattle.file.specs.Layout.{flat, lengthOf, written}
+use Rattle.file.specs.Code.{Usable}
+use Rattle.file.specs.Contents.{statesIn, labelsIn, startIn, countIn, coloursIn, edgesIn, filterIn}
+use Rattle.file.specs.Answers.{accepted, unpackedOutcome, packedOutcome}
+use Rattle.file.specs.Refusals.{checkOf, unpackOf, threes, listed, packOf, numbersIn, laid}
 use Rattle.file.specs.Promise.{UnpackPromise, PackPromise}
 use Rattle.file.proofs.EdgeLists.{length-flat, threes-flat, flat-threes, length-threes}
-use Rattle.file.proofs.Tests.{first-accepted, Sound, check-sound, sound-check, Written, write-written, writable-write}
-use Rattle.file.proofs.Files.{Holds, length-written, written-holds, written-sound, length-colours, length-edges-in, length-filter, length-filter-edges, read-writable, read-back}
+use Rattle.file.proofs.Tests.{writable-in-order, Sound, check-sound, sound-check, Written, write-written, writable-write}
+use Rattle.file.proofs.Calls.{unpack-accepts, unpack-checked}
+use Rattle.file.proofs.Files.{length-written, written-holds, written-sound, length-colours, length-edges-in, read-writable, read-back}
 
 -- ---- of the definitions
 
@@ -70,3 +72,59 @@ module _ (P : Profile) (ok : Usable P) where
     pub edges-packed : flat (edgesIn P (written P (listed cs es m st))) ≡ es
     edges-packed =
         ap flat (written-holds P ok (listed cs es m st) (pack-passed .writable) .edges-are) ∙ flat-listed
+
+-- an accepted file holds a filter that is in order
+pub checked-in-order : (P : Profile) → Usable P → (s vs : List ℕ) → checkOf P s ≡ accepted vs → inOrder (filterIn P s) ≡ true
+checked-in-order P ok s vs h = writable-in-order P (filterIn P s) (read-writable P ok s (check-sound P s vs h .0))
+
+-- ---- of the calls
+
+-- the beginning of a room that was written
+laid-front : (bytes room : List ℕ) (n : ℕ) → length bytes ≡ n → take n (laid bytes room) ≡ bytes
+laid-front bytes room n h = take-at bytes (drop (length bytes) room) n h
+
+module _ (P : Profile) (ok : Usable P) where
+  -- what was unpacked from a file into two rooms, and packed again, gives the file's bytes, and behind them the room as found
+  pub pack-after-unpack : (file colours edges colours′ edges′ : List ℕ) (u : Unpacked) (n m start e : ℕ) (room room′ : List ℕ) (p : Packed) → Bytes file →
+      UnpackPromise P file colours edges u colours′ edges′ → unpackedOutcome u ≡ accepted (n ∷ m ∷ start ∷ e ∷ []) →
+      PackPromise P (take n colours′) (take (3 * e) edges′) m start room p room′ → length file ≤ length room →
+      (packedOutcome p ≡ accepted (length file ∷ [])) × (room′ ≡ laid file room)
+  pack-after-unpack file colours edges colours′ edges′ u n m start e room room′ p b hu a hp l =
+      let h : unpackOf P file (length colours) (length edges) ≡ accepted (n ∷ m ∷ start ∷ e ∷ []) = sym (hu .answer) ∙ a in
+      let q = check-sound P file _ (unpack-checked P file _ (length colours) (length edges) h) in
+      let numbers : numbersIn P file ≡ n ∷ m ∷ start ∷ e ∷ [] = q .1 in
+      let hn : statesIn P file ≡ n = cc in
+      let hm : labelsIn P file ≡ m = cc in
+      let hs : startIn P file ≡ start = cc in
+      let he : countIn P file ≡ e = cc in
+      let cs : take n colours′ ≡ coloursIn P file = ap (take n) (hu .colours-after ∙ rw h) ∙ laid-front (coloursIn P file) colours n (length-colours P file ∙ hn) in
+      let es : take (3 * e) edges′ ≡ flat (edgesIn P file) =
+      ap (take (3 * e)) (hu .edges-after ∙ rw h)
+      ∙ laid-front (flat (edgesIn P file)) edges (3 * e) (length-flat (edgesIn P file) ∙ ap (λ (k : ℕ). 3 * k) (length-edges-in P file ∙ he)) in
+      let accepts : packOf P (take n colours′) (take (3 * e) edges′) m start (length room) ≡ accepted (length file ∷ []) =
+      rw (cs, es, ← hm, ← hs) (pack-unpacked P ok file (length room) b (q .0) l) in
+      let bytes : written P (listed (take n colours′) (take (3 * e) edges′) m start) ≡ file = rw (cs, es, ← hm, ← hs) (bytes-unpacked P ok file b (q .0)) in
+      (hp .answer ∙ accepts, hp .room-after ∙ rw (accepts, bytes))
+
+  -- what was packed into a room, and unpacked from its first bytes, gives the lists and the numbers, and behind them the rooms as found
+  pub unpack-after-pack : (colours edges : List ℕ) (m start : ℕ) (room room′ : List ℕ) (p : Packed) (n : ℕ) (cs es cs′ es′ : List ℕ) (u : Unpacked) →
+      PackPromise P colours edges m start room p room′ → packedOutcome p ≡ accepted (n ∷ []) →
+      UnpackPromise P (take n room′) cs es u cs′ es′ → length colours ≤ length cs → length edges ≤ length es →
+      (unpackedOutcome u ≡ accepted (length colours ∷ m ∷ start ∷ length edges / 3 ∷ [])) × (cs′ ≡ laid colours cs) × (es′ ≡ laid edges es)
+  unpack-after-pack colours edges m start room room′ p n cs es cs′ es′ u hp a hu lc le =
+      let F = listed colours edges m start in
+      let h : packOf P colours edges m start (length room) ≡ accepted (n ∷ []) = sym (hp .answer) ∙ a in
+      let passed = pack-passed P ok colours edges m start (length room) (n ∷ []) h in
+      let long : length (written P F) ≡ n = length-written P ok F (passed .writable) ∙ cc (passed .are) in
+      let file : take n room′ ≡ written P F = ap (take n) (hp .room-after ∙ rw h) ∙ laid-front (written P F) room n long in
+      let holds = written-holds P ok F (passed .writable) in
+      let third : length edges ≡ 3 * (length edges / 3) = whole-edges P ok colours edges m start (length room) (n ∷ []) h in
+      let count : countIn P (written P F) ≡ length edges / 3 = holds .count-is ∙ count-listed P ok colours edges m start (length room) (n ∷ []) h in
+      let accepts : unpackOf P (take n room′) (length cs) (length es) ≡ accepted (length colours ∷ m ∷ start ∷ length edges / 3 ∷ []) =
+      rw file
+      (unpack-accepts P (written P F) _ (length cs) (length es) (check-packed P ok colours edges m start (length room) (n ∷ []) h)
+      (omega (arith, holds .states-are)) (omega (arith, count, third))) in (
+        hu .answer ∙ accepts,
+        hu .colours-after ∙ rw (accepts, file, colours-packed P ok colours edges m start (length room) (n ∷ []) h),
+        hu .edges-after ∙ rw (accepts, file, edges-packed P ok colours edges m start (length room) (n ∷ []) h),
+      )

@@ -1,20 +1,20 @@
 -- Tests in a row, taken apart: what an accepted file and accepted lists have passed.
 -- Assumes nothing.
-use mathlib.Core.Path.{_≡_, refl, sym, ap, _∙_}
+use mathlib.Core.Path.{_≡_, refl, sym, _∙_}
 use mathlib.Core.Bool.{Bool, true, false, not, _&&_, _||_}
-use mathlib.Core.List.{List, [], _∷_, _++_}
+use mathlib.Core.List.{List, [], _∷_}
 use mathlib.Core.Option.{Option, none, some}
-use Prim.Native.Nat.{ℕ, zero, suc, _+_, _*_, _-_, _/_, _%_, _^_, _≤_, _<_}
+use Prim.Native.Nat.{ℕ, suc, _*_, _-_, _^_, _≤_, _<_}
 use native.Mathlib.Omega.{arith}
 use lib.Dec.{eqb, leb, ltb}
 use lib.ListN.{length}
-use borrow.Author.Tests.{lt-ltb, le-ltb, le-leb, lt-leb, eq-eqb, ne-eqb, ltb-true, ltb-false, leb-true, leb-false, eqb-true, eqb-false, not-false}
+use borrow.Author.Tests.{lt-ltb, le-ltb, le-leb, lt-leb, eq-eqb, ltb-true, ltb-false, leb-true, leb-false, eqb-true, eqb-false, not-false}
 use Rattle.meaning.specs.Filter.{Edge, Filter, states, inside, comesBefore, samePlace, allInside, leads, ascending, inOrder}
 use Rattle.file.specs.declared.Profile.{Profile}
-use Rattle.file.specs.Layout.{headerBits, edgesBegin, fileBits, bytesFor, fileLength, lengthOf}
-use Rattle.file.specs.Contents.{statesIn, labelsIn, startIn, countIn, coloursIn, edgesIn, filterIn, lengthIn, fillingIn}
+use Rattle.file.specs.Layout.{headerBits, bytesFor, lengthOf}
+use Rattle.file.specs.Contents.{statesIn, labelsIn, startIn, countIn, edgesIn, lengthIn, fillingIn}
 use Rattle.file.specs.Answers.{Outcome, accepted, refused}
-use Rattle.file.specs.Refusals.{Test, test, refuseIf, firstOf, faultIf, orderFault, edgeFault, Fault, faultAt, firstFault, edgesThen, placeInFile, placeInList, fileTests, numbersIn, fromEdges, checkOf, within, allBelow, holdable, writeTests, roomTest, writeOf}
+use Rattle.file.specs.Refusals.{Test, pick, firstOf, orderFault, edgeFault, Fault, faultAt, firstFault, edgesThen, placeInFile, placeInList, fileTests, numbersIn, fromEdges, checkOf, within, allBelow, holdable, writeTests, roomTest, writeOf}
 
 pub clash : {A : Type 0} → _≡_ {A = ℕ} 0 1 → A
 clash z = let no : ⊥ = omega arith in absurd no
@@ -26,7 +26,7 @@ abbrev pub Passed : List Test → Type 0
 Passed [] = Unit {0}
 Passed (t ∷ ts) = (t .given ≡ false) × Passed ts
 
-refuse-accepted : (b : Bool) (k p : ℕ) (next : Outcome) (vs : List ℕ) → refuseIf b (refused k p) next ≡ accepted vs → (b ≡ false) × (next ≡ accepted vs)
+refuse-accepted : (b : Bool) (k p : ℕ) (next : Outcome) (vs : List ℕ) → pick b (refused k p) next ≡ accepted vs → (b ≡ false) × (next ≡ accepted vs)
 refuse-accepted true k p next vs h = clash cc
 refuse-accepted false k p next vs h = (refl, h)
 
@@ -77,21 +77,23 @@ after a b h k = go (ltb (b .source) (a .source)) refl
             let l : b .label < a .label = order (a .label) (b .label) (ltb-false (a .label) (b .label) l1) (eqb-false (a .label) (b .label) l2) in
             rw (e, s2) (lt-ltb _ _ l)
 
-if-clear : (b : Bool) (k : ℕ) (next : Option ℕ) → faultIf b k next ≡ none → (b ≡ false) × (next ≡ none)
-if-clear true k next h = none-some k h
-if-clear false k next h = (refl, h)
+pick-clear : (b : Bool) (k : ℕ) (next : Option ℕ) → pick b (some k) next ≡ none → (b ≡ false) × (next ≡ none)
+pick-clear true k next h = none-some k h
+pick-clear false k next h = (refl, h)
 
 order-clear : (e b : Edge) → orderFault (some b) e ≡ none → comesBefore b e ≡ true
 order-clear e b h =
-    let p = if-clear (comesBefore e b) 8 _ h in
-    let q = if-clear (samePlace e b) 9 none (p .1) in
+    let p = pick-clear (comesBefore e b) 8 _ h in
+    let q = pick-clear (samePlace e b) 9 none (p .1) in
     after e b (p .0) (q .0)
+
+inside-pick : (b : Bool) (next : Option ℕ) → pick b next (some 7) ≡ none → (b ≡ true) × (next ≡ none)
+inside-pick true next h = (refl, h)
+inside-pick false next h = none-some 7 h
 
 inside-clear : (n m : ℕ) (before : Option Edge) (e : Edge) → edgeFault n m before e ≡ none → (inside n m e ≡ true) × (orderFault before e ≡ none)
 unfolding edgeFault
-inside-clear n m before e h =
-    let p = if-clear (not (inside n m e)) 7 _ h in
-    (not-false (inside n m e) (p .0), p .1)
+inside-clear n m before e h = inside-pick (inside n m e) (orderFault before e) h
 
 at-clear : (i : ℕ) (f : Option ℕ) (next : Option Fault) → faultAt i f next ≡ none → (f ≡ none) × (next ≡ none)
 at-clear i none next h = (refl, h)
@@ -178,6 +180,13 @@ pub and-right : (a b : Bool) → a && b ≡ true → b ≡ true
 and-right true b h = h
 and-right false b h = clash cc
 
+-- what is accepted is in order: the start is a state, every edge is inside, and the edges ascend strictly
+pub writable-in-order : (P : Profile) (F : Filter) → Writable P F → inOrder F ≡ true
+unfolding inOrder
+writable-in-order P F w =
+    let r = fault-free (states F) (F .labels) 0 none (F .edges) (w .clear) in
+    rw (lt-ltb _ _ (w .start-in), r .all-inside) (r .ascend)
+
 -- what the widths can hold
 pub record Held (P : Profile) (colours : List ℕ) (m : ℕ) : Type 0 where
   pub states-low : 1 ≤ length colours
@@ -212,7 +221,7 @@ write-written P F whole room vs h =
     let p = first-accepted (writeTests P F whole) _ vs h in
     let t = p .0 in
     let q = edges-accepted placeInList (firstFault (states F) (F .labels) none 0 (F .edges)) _ vs (p .1) in
-    let r = first-accepted (roomTest P F room) (accepted (lengthOf P F ∷ [])) vs (q .1) in
+    let r = first-accepted (roomTest (lengthOf P F) room) (accepted (lengthOf P F ∷ [])) vs (q .1) in
     let hold = holdable P (F .colours) (F .labels) in
     let a : hold && whole ≡ true = not-false (hold && whole) (t .0) in
     let k = held P (F .colours) (F .labels) (and-left hold whole a) in

@@ -1,8 +1,7 @@
--- This paper's number of each kind of refusal, and the number, place and values of each answer (document 01, "Numbers of refusal").
+-- This paper's number of each kind of refusal, and each answer as number, place and values (document 01, "Numbers of refusal").
 -- Assumes nothing.
 use Prim.Native.Nat.{ℕ}
 use mathlib.Core.List.{List, [], _∷_}
-use lib.ListN.{getD}
 use Rattle.file.specs.declared.Kind.{Kind}
 use Rattle.file.specs.declared.Kind.the-variants.{TooShort, Start, EdgeCount, Missing, Excess, Filling, Outside, Order, Repeated, AnswerRoom, ClassRoom, Room, Observation, Lists}
 use Rattle.file.specs.declared.Refusal.{Refusal}
@@ -30,24 +29,11 @@ numberOf Room = 12
 numberOf Observation = 13
 numberOf Lists = 14
 
--- What a call answers: the values that come back, or a refusal's number and place.
+-- What a call answers: the values that come back, or a refusal's number and place. With a refusal no other number comes back:
+-- it has no values, each count of it is 0.
 pub data Outcome : Type 0 where
   accepted : List ℕ → Outcome
   refused : ℕ → ℕ → Outcome
-
--- The refusal's number; 0 where there is none.
-abbrev pub number : Outcome → ℕ
-number (accepted vs) = 0
-number (refused k p) = k
-
-abbrev pub place : Outcome → ℕ
-place (accepted vs) = 0
-place (refused k p) = p
-
--- Value i of an answer: with a refusal no other number comes back, each count is 0.
-abbrev pub value : Outcome → ℕ → ℕ
-value (accepted vs) i = getD vs i 0
-value (refused k p) i = 0
 
 abbrev pub refusalOutcome : Refusal → Outcome
 refusalOutcome r = refused (numberOf (r .kind)) (r .place)

@@ -1,13 +1,13 @@
 -- How a filter stands in a file: widths, positions, length, and the bytes that are written (document 01, "The filter file").
 -- Assumes nothing.
-use Prim.Native.Nat.{ℕ, zero, suc, _+_, _*_, _-_, _/_, _≤_, _<_}
+use Prim.Native.Nat.{ℕ, zero, suc, _+_, _*_, _-_, _/_}
 use mathlib.Core.List.{List, [], _∷_, _++_}
 use lib.ListN.{length, replicate}
 use Rattle.bits.specs.Bits.{putFields}
 use Rattle.meaning.specs.Filter.{Edge, Filter, states}
 use Rattle.file.specs.declared.Profile.{Profile}
 
--- The large file: states 8, labels 6, start 8, edges 15, a colour 6 bits.
+-- Widths in bits: of the fields for states, labels, start and edges, and of a colour.
 abbrev pub large : Profile
 large = record { states = 8; labels = 6; start = 8; edges = 15; colour = 6 }
 
@@ -67,13 +67,3 @@ lengthOf P F = fileLength P (states F) (length (F .edges))
 unfoldable pub written : Profile → Filter → List ℕ
 written P F =
     putFields (replicate (lengthOf P F) 0) 0 (fileWidths P (states F) (length (F .edges))) (fileValues F)
-
--- Widths that the code can use: states, labels and colours are bytes, a start and a count of edges fit their fields.
-pub record Usable (P : Profile) : Type 0 where
-  pub states≤ : P .states ≤ 8
-  pub labels≤ : P .labels ≤ 8
-  pub colour≤ : P .colour ≤ 8
-  pub start≤ : P .start ≤ 16
-  pub edges≤ : P .edges ≤ 16
-  pub start-fits : P .states ≤ P .start
-  pub edges-fit : P .states + P .labels < P .edges

@@ -2,5 +2,5 @@ pub mod Layout
 pub mod Contents
 pub mod Answers
 pub mod Refusals
-pub mod Verdicts
 pub mod Promise
+pub mod Code

@@ -1,6 +1,7 @@
 -- What check, unpack and pack answer: each test in its order, the first that holds decides (document 01, "Numbers of refusal").
+-- Document 01 speaks of the profile `large`.
 -- Assumes nothing.
-use Prim.Native.Nat.{ℕ, zero, suc, _+_, _*_, _/_, _%_, _^_}
+use Prim.Native.Nat.{ℕ, suc, _*_, _%_, _^_}
 use mathlib.Core.Bool.{Bool, true, false, not, _&&_, _||_}
 use mathlib.Core.Option.{Option, none, some}
 use mathlib.Core.List.{List, [], _∷_, _++_}
@@ -22,29 +23,25 @@ pub record Test : Type 0 where
 abbrev pub test : ℕ → Bool → Test
 test k b = record { number = k; given = b }
 
-abbrev pub refuseIf : Bool → Outcome → Outcome → Outcome
-refuseIf true refusal next = refusal
-refuseIf false refusal next = next
+abbrev pub pick : {A : Type 0} → Bool → A → A → A
+pick true a b = a
+pick false a b = b
 
 -- The first test that is given decides; where none is, what follows.
 abbrev pub firstOf : List Test → Outcome → Outcome
 firstOf [] next = next
-firstOf (t ∷ ts) next = refuseIf (t .given) (refused (t .number) 0) (firstOf ts next)
+firstOf (t ∷ ts) next = pick (t .given) (refused (t .number) 0) (firstOf ts next)
 
 -- ---- the edges: 7, 8, 9
-
-abbrev pub faultIf : Bool → ℕ → Option ℕ → Option ℕ
-faultIf true k next = some k
-faultIf false k next = next
 
 -- 8 and 9 of an edge, behind the edge before it if there is one.
 abbrev pub orderFault : Option Edge → Edge → Option ℕ
 orderFault none e = none
-orderFault (some before) e = faultIf (comesBefore e before) 8 (faultIf (samePlace e before) 9 none)
+orderFault (some before) e = pick (comesBefore e before) (some 8) (pick (samePlace e before) (some 9) none)
 
 -- The fault of an edge: within it 7, 8, 9.
 unfoldable pub edgeFault : ℕ → ℕ → Option Edge → Edge → Option ℕ
-edgeFault n m before e = faultIf (not (inside n m e)) 7 (orderFault before e)
+edgeFault n m before e = pick (inside n m e) (orderFault before e) (some 7)
 
 pub record Fault : Type 0 where
   pub number : ℕ
@@ -65,7 +62,8 @@ abbrev pub edgesThen : (ℕ → ℕ) → Option Fault → Outcome → Outcome
 edgesThen place none next = next
 edgesThen place (some f) next = refused (f .number) (place (f .index))
 
--- The place of an edge's fault: the edge's index, in a file and in pack's list.
+-- The place of an edge's fault is the edge's index. A file and pack's list each say so for themselves: only a file has bits
+-- that a place could be counted in.
 abbrev pub placeInFile : ℕ → ℕ
 placeInFile index = index
 
@@ -74,6 +72,7 @@ placeInList index = index
 
 -- ---- check
 
+-- 1, 2, 3, 4, 5, 6
 unfoldable pub fileTests : Profile → List ℕ → List Test
 fileTests P file =
     test 1 (ltb (length file) (bytesFor (headerBits P)))
@@ -84,7 +83,7 @@ fileTests P file =
     ∷ test 6 (not (eqb (fillingIn P file) 0))
     ∷ []
 
--- n, m, start and e.
+-- what checking answers
 abbrev pub numbersIn : Profile → List ℕ → List ℕ
 numbersIn P file = statesIn P file ∷ labelsIn P file ∷ startIn P file ∷ countIn P file ∷ []
 
@@ -103,6 +102,7 @@ abbrev pub andThen : Outcome → List Test → Outcome
 andThen (refused k p) tests = refused k p
 andThen (accepted vs) tests = firstOf tests (accepted vs)
 
+-- 12: the colour room is below n, or the edge room below 3e.
 abbrev pub unpackTests : Profile → List ℕ → ℕ → ℕ → List Test
 unpackTests P file colourRoom edgeRoom =
     test 12 (ltb colourRoom (statesIn P file) || ltb edgeRoom (3 * countIn P file)) ∷ []
@@ -126,7 +126,6 @@ listed colours edges m start = record { colours = colours; labels = m; start = s
 abbrev pub within : ℕ → ℕ → ℕ → Bool
 within low high x = leb low x && leb x high
 
--- Each is below the limit.
 unfoldable pub allBelow : ℕ → List ℕ → Bool
 allBelow limit [] = true
 allBelow limit (x ∷ xs) = ltb x limit && allBelow limit xs
@@ -136,7 +135,7 @@ unfoldable pub holdable : Profile → List ℕ → ℕ → Bool
 holdable P colours m =
     within 1 (2 ^ P .states) (length colours) && (within 1 (2 ^ P .labels) m && allBelow (2 ^ P .colour) colours)
 
--- What writing a filter answers; `whole` says that its edge list was one of whole edges.
+-- 14, 2 and 3 of writing a filter; `whole`: the edge list's length is a multiple of 3.
 unfoldable pub writeTests : Profile → Filter → Bool → List Test
 writeTests P F whole =
     test 14 (not (holdable P (F .colours) (F .labels) && whole))
@@ -144,14 +143,16 @@ writeTests P F whole =
     ∷ test 3 (ltb (states F * F .labels) (length (F .edges)))
     ∷ []
 
-abbrev pub roomTest : Profile → Filter → ℕ → List Test
-roomTest P F room = test 10 (ltb room (lengthOf P F)) ∷ []
+-- 10: the room is shorter than what is written.
+abbrev pub roomTest : ℕ → ℕ → List Test
+roomTest length room = test 10 (ltb room length) ∷ []
 
+-- 14, 2, 3, the edges, 10
 unfoldable pub writeOf : Profile → Filter → Bool → ℕ → Outcome
 writeOf P F whole room =
     firstOf (writeTests P F whole)
     (edgesThen placeInList (firstFault (states F) (F .labels) none 0 (F .edges))
-    (firstOf (roomTest P F room) (accepted (lengthOf P F ∷ []))))
+    (firstOf (roomTest (lengthOf P F) room) (accepted (lengthOf P F ∷ []))))
 
 unfoldable pub packOf : Profile → List ℕ → List ℕ → ℕ → ℕ → ℕ → Outcome
 packOf P colours edges m start room = writeOf P (listed colours edges m start) (eqb (length edges % 3) 0) room

@@ -9,10 +9,10 @@ ghost use Prim.Native.Nat.{_+_, _*_, _/_, _≤_, _<_, _^_};
 ghost use lib.Dec.{eqb};
 ghost use lib.ListN.{length, drop};
 ghost use Rattle.bits.specs.Bits.{putFields, Fit};
-ghost use Rattle.file.specs.Layout.{edgeWidths, flat, Usable};
+ghost use Rattle.file.specs.Layout.{edgeWidths, flat};
 ghost use Rattle.file.specs.Contents.{edgeAt, edgesFrom};
 ghost use Rattle.file.specs.Refusals.{edgeFault, faultAt, firstFault, threes};
-ghost use Rattle.file.specs.Verdicts.{edgeOf, edgeIn, behind, faultOf};
+ghost use Rattle.file.specs.Code.{edgeOf, edgeIn, edgeBefore, faultOf, Usable};
 
 pub struct Edge {
     pub source: usize,
@@ -49,7 +49,7 @@ fn faulty(kind: Kind, place: usize) -> Verdict
 
 // The one test of an edge with index i, behind the edge before it; the first edge has none before it.
 fn test(n: usize, m: usize, i: usize, before: Edge, edge: Edge) -> Verdict
-    ensures { λ r. ⌜ faultOf r ≡ faultAt i (edgeFault n m (behind (eqb i 0) before) (edgeOf edge)) none ⌝ }
+    ensures { λ r. ⌜ faultOf r ≡ faultAt i (edgeFault n m (edgeBefore (eqb i 0) before) (edgeOf edge)) none ⌝ }
 {
     let source = edge.source;
     let label = edge.label;

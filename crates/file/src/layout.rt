@@ -2,7 +2,8 @@
 use crate::Profile;
 ghost use mathlib.Core.Path.{_≡_};
 ghost use Prim.Native.Nat.{_≤_, _^_};
-ghost use Rattle.file.specs.Layout.{headerBits, edgeBits, edgesBegin, fileBits, bytesFor, Usable};
+ghost use Rattle.file.specs.Layout.{headerBits, edgeBits, edgesBegin, fileBits, bytesFor};
+ghost use Rattle.file.specs.Code.{Usable};
 
 pub fn header_bits(p: Profile) -> usize
     requires { ⌜ Usable p ⌝ }

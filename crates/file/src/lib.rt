@@ -9,10 +9,10 @@ ghost use mathlib.Core.List.{_∷_, []};
 ghost use Prim.Native.Nat.{_≤_};
 ghost use lib.ListN.{length};
 ghost use Rattle.bits.specs.Bits.{putField};
-ghost use Rattle.file.specs.Layout.{large, fileBits, fillBits, lengthOf, written, Usable};
-ghost use Rattle.file.specs.Answers.{accepted, checkedOutcome, unpackedOutcome, packedOutcome};
-ghost use Rattle.file.specs.Refusals.{edgesThen, placeInList, allBelow, holdable, packOf, listed, laid};
-ghost use Rattle.file.specs.Verdicts.{faultOf};
+ghost use Rattle.file.specs.Layout.{large, fileBits, fillBits, lengthOf, written};
+ghost use Rattle.file.specs.Answers.{numberOf, accepted, checkedOutcome, unpackedOutcome, packedOutcome};
+ghost use Rattle.file.specs.Refusals.{firstOf, roomTest, allBelow, holdable, packOf, listed, laid};
+ghost use Rattle.file.specs.Code.{Usable};
 ghost use Rattle.file.specs.Promise.{CheckPromise, UnpackPromise, PackPromise};
 
 // The widths in bits of a file's fields: states, labels, start, edges, and one colour.
@@ -194,11 +194,11 @@ fn pack_as(
     ensures { λ r. ⌜ PackPromise p (now (colours .entry)) (now (edges .entry)) m start (now (room .entry)) r (now (room .exit)) ⌝ }
 {
     let answer = test_lists(p, colours, edges, m, start, room.len());
-    let Packed::Accepted(length) = answer else {
+    let Packed::Accepted(written) = answer else {
         return answer;
     };
     write(p, colours, edges, m, start, room);
-    Packed::Accepted(length)
+    Packed::Accepted(written)
 }
 
 fn not_packed(kind: Kind) -> Packed
@@ -234,24 +234,20 @@ fn test_lists(
         return not_packed(Kind::EdgeCount);
     }
     let verdict = edges::test_list(edges, n, m);
-    let Verdict::Faultless = verdict else {
-        return faulty_list(verdict);
+    let Verdict::Faulty(why) = verdict else {
+        return test_room(layout::bytes_for(layout::file_bits(p, n, e)), room);
     };
-    let length = layout::bytes_for(layout::file_bits(p, n, e));
+    Packed::Refused(why)
+}
+
+// What pack answers for lists that it accepts: the length, if the room holds the file.
+fn test_room(length: usize, room: usize) -> Packed
+    ensures { λ r. ⌜ packedOutcome r ≡ firstOf (roomTest length room) (accepted (length ∷ [])) ⌝ }
+{
     if room < length {
         return not_packed(Kind::AnswerRoom);
     }
     Packed::Accepted(length)
-}
-
-// The fault of an edge as pack's own refusal.
-fn faulty_list(verdict: Verdict) -> Packed
-    ensures { λ r. ⌜ packedOutcome r ≡ edgesThen placeInList (faultOf verdict) (accepted (0 ∷ [])) ⌝ }
-{
-    match verdict {
-        Verdict::Faulty(why) => Packed::Refused(why),
-        Verdict::Faultless => Packed::Accepted(0),
-    }
 }
 
 // Whether the file's widths hold so many states, so many labels and each colour.
@@ -314,4 +310,26 @@ fn fill(p: Profile, room: &mut [u8], n: usize, e: usize)
 {
     let bits = layout::file_bits(p, n, e);
     bits::put(room, bits, layout::bytes_for(bits) * 8 - bits, 0);
+}
+
+// This paper's number of a kind of refusal.
+pub fn number(kind: Kind) -> u8
+    ensures { λ r. ⌜ r ≡ numberOf kind ⌝ }
+{
+    match kind {
+        Kind::TooShort => 1,
+        Kind::Start => 2,
+        Kind::EdgeCount => 3,
+        Kind::Missing => 4,
+        Kind::Excess => 5,
+        Kind::Filling => 6,
+        Kind::Outside => 7,
+        Kind::Order => 8,
+        Kind::Repeated => 9,
+        Kind::AnswerRoom => 10,
+        Kind::ClassRoom => 11,
+        Kind::Room => 12,
+        Kind::Observation => 13,
+        Kind::Lists => 14,
+    }
 }

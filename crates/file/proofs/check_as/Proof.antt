@@ -1,10 +1,10 @@
 -- `file::check_as` meets its contract: past each test its condition is false in the definition too, and the first that is true
 -- is the answer. Assumes nothing.
-use mathlib.Core.Path.{_≡_, refl, ap, sym, _∙_}
-use mathlib.Core.Bool.{true, false, not}
+use mathlib.Core.Path.{_≡_, ap, sym, _∙_}
+use mathlib.Core.Bool.{true, false}
 use mathlib.Core.List.{List}
 use mathlib.Core.Option.{none}
-use Prim.Native.Nat.{ℕ, _*_, _-_, _≤_, _<_}
+use Prim.Native.Nat.{ℕ, _*_, _-_, _≤_}
 use native.Mathlib.Nat.{mul-le-mul}
 use native.Mathlib.Omega.{arith}
 use borrow.Author.Needs.{needs}
@@ -17,10 +17,10 @@ use Rattle.file.specs.declared.Profile.{Profile}
 use Rattle.file.specs.declared.Reading.{Reading}
 use Rattle.file.specs.Layout.{headerBits, bytesFor, fileBits, fileLength, fillBits, edgesBegin}
 use Rattle.file.specs.Contents.{statesIn, labelsIn, startIn, countIn, edgesFrom, edgesIn, lengthIn, fillingIn}
-use Rattle.file.specs.Refusals.{Fault, firstFault, edgesThen, placeInFile, fileTests, fromEdges, checkOf}
+use Rattle.file.specs.Refusals.{firstFault, fileTests, fromEdges, checkOf}
 use Rattle.file.specs.Answers.{readingOutcome}
-use Rattle.file.specs.Verdicts.{faultOf}
-use Rattle.file.proofs.Bounds.{states-high, labels-high, count-high, length-holds, fill-lt}
+use Rattle.file.specs.Code.{faultOf}
+use Rattle.file.proofs.Bounds.{states-high, labels-high, count-high}
 use Rattle.file.proofs.check_as.Statement.{statement}
 use Rattle.file.proofs.check_as.Tie as tie
 

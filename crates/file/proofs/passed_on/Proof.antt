@@ -3,22 +3,16 @@ use mathlib.Core.Path.{ap, sym}
 use borrow.Author.Needs.{needs}
 use Rattle.file.proofs.passed_on.Statement.{statement}
 use Rattle.file.proofs.passed_on.Tie as tie
-use Rattle.file.proofs.passed_on.Reads as reads
-use Rattle.file.proofs.passed_on.Lts as lts
 
--- src/lib.rt:146:27
 enum-known-answer : tie.Need-enum-known-answer
 enum-known-answer c = search needs
 
--- src/lib.rt:147:26
 enum-known-answer-2 : tie.Need-enum-known-answer-2
 enum-known-answer-2 c = search needs
 
--- src/lib.rt:142:1
 returns : tie.Need-returns
 returns c = sym (ap checkedOutcome (c .before .answer .given .1))
 
--- src/lib.rt:142:1
 returns-2 : tie.Need-returns-2
 returns-2 c = sym (ap checkedOutcome (c .before .answer2 .given .1))
 

@@ -1,6 +1,6 @@
 -- `file::test_lists` meets its contract: past each test its condition is false in the definition too. Assumes nothing.
 use mathlib.Core.Path.{_≡_, ap, sym, _∙_}
-use mathlib.Core.Bool.{true, false, not}
+use mathlib.Core.Bool.{true, false}
 use mathlib.Core.List.{List, _∷_, []}
 use mathlib.Core.Option.{none}
 use Prim.Native.Nat.{ℕ, _*_, _/_, _%_, _≤_}
@@ -12,11 +12,10 @@ use denote.Ref.{now}
 use lib.Dec.{eqb, leb, ltb}
 use lib.ListN.{length}
 use Rattle.meaning.specs.Filter.{Filter}
-use Rattle.file.specs.declared.Profile.{Profile}
 use Rattle.file.specs.Layout.{bytesFor, fileBits, fileLength, lengthOf}
 use Rattle.file.specs.Answers.{accepted}
 use Rattle.file.specs.Refusals.{firstOf, firstFault, edgesThen, placeInList, threes, listed, holdable, writeTests, roomTest, writeOf, packOf}
-use Rattle.file.specs.Verdicts.{faultOf}
+use Rattle.file.specs.Code.{faultOf}
 use Rattle.file.proofs.Bounds.{states-pow, labels-pow}
 use Rattle.file.proofs.EdgeLists.{length-threes}
 use Rattle.file.proofs.Tests.{Held, held}
@@ -70,7 +69,7 @@ few c = rw (count (c .before .before)) (le-ltb _ _ (c .if4 .left))
 tested : (c : tie.Else4) →
     packOf (start₃ (c .before) .args .p) (colours (start₃ (c .before))) (edges (start₃ (c .before))) (start₃ (c .before) .args .m) (start₃ (c .before) .args .start) (start₃ (c .before) .args .room)
     ≡ edgesThen placeInList (firstFault (length (colours (start₃ (c .before)))) (start₃ (c .before) .args .m) none 0 (threes (edges (start₃ (c .before)))))
-    (firstOf (roomTest (start₃ (c .before) .args .p) (F (start₃ (c .before))) (start₃ (c .before) .args .room)) (accepted (lengthOf (start₃ (c .before) .args .p) (F (start₃ (c .before))) ∷ [])))
+    (firstOf (roomTest (lengthOf (start₃ (c .before) .args .p) (F (start₃ (c .before)))) (start₃ (c .before) .args .room)) (accepted (lengthOf (start₃ (c .before) .args .p) (F (start₃ (c .before))) ∷ [])))
 unfolding packOf writeOf writeTests
 tested c = let e2 = c .before .before in rw (holds (e2 .before), whole e2, starts (c .before), few c)
 
@@ -131,23 +130,11 @@ returns-4 c =
 test-list-requires : tie.Need-test-list-requires
 test-list-requires c κs = search needs
 
+enum-known-verdict : tie.Need-enum-known-verdict
+enum-known-verdict c = search needs
+
 enum-told : tie.Need-enum-told
 enum-told c = search needs
-
-enum-told-2 : tie.Need-enum-told-2
-enum-told-2 c = search needs
-
-faulty-list-requires : tie.Need-faulty-list-requires
-faulty-list-requires c κs = search needs
-
-returns-5 : tie.Need-returns-5
-returns-5 c =
-    let told = c .before in
-    let test = told .before .before in
-    let fault = ap faultOf (told .enum-told2 .given .1) in
-    c .faulty-list .ensures
-    ∙ rw fault
-    (sym (tested (test .before) ∙ rw (sym (test .test-list .ensures) ∙ fault)))
 
 file-bits-requires : tie.Need-file-bits-requires
 file-bits-requires c κs =
@@ -158,26 +145,24 @@ file-bits-requires c κs =
 bytes-for-requires : tie.Need-bytes-for-requires
 bytes-for-requires c κs = search needs
 
-not-packed-requires-5 : tie.Need-not-packed-requires-5
-not-packed-requires-5 c κs = search needs
+test-room-requires : tie.Need-test-room-requires
+test-room-requires c κs = search needs
 
-returns-6 : tie.Need-returns-6
-returns-6 c =
-    let bytes = c .before .before in
-    let told = bytes .before .before in
-    let e4 = told .before .before .before in
-    let a = start₃ (e4 .before) .args in
-    let short = lt-ltb (a .room) (lengthOf (a .p) (F (start₃ (e4 .before)))) (omega (arith, c .before .if5 .taken, length-is bytes)) in
-    rw (c .not-packed5 .ensures) (sym (tested e4 ∙ rw (clear told, short)))
-
-returns-7 : tie.Need-returns-7
-returns-7 c =
+returns-5 : tie.Need-returns-5
+returns-5 c =
     let bytes = c .before in
     let told = bytes .before .before in
     let e4 = told .before .before .before in
-    let a = start₃ (e4 .before) .args in
-    let roomy = le-ltb (a .room) (lengthOf (a .p) (F (start₃ (e4 .before)))) (omega (arith, c .if5 .left, length-is bytes)) in
-    ap (λ (n : ℕ). accepted (n ∷ [])) (length-is bytes) ∙ sym (tested e4 ∙ rw (clear told, roomy))
+    let room = start₃ (e4 .before) .args .room in
+    c .test-room .ensures
+    ∙ ap (λ (n : ℕ). firstOf (roomTest n room) (accepted (n ∷ []))) (length-is bytes)
+    ∙ sym (tested e4 ∙ rw (clear told))
+
+returns-6 : tie.Need-returns-6
+returns-6 c =
+    let test = c .before .before .before in
+    let fault = sym (test .test-list .ensures) ∙ ap faultOf (c .before .verdict .given .1) in
+    sym (tested (test .before) ∙ rw fault)
 
 pub test-lists-spec : {M : Type 1} → statement M
 test-lists-spec =
@@ -194,12 +179,10 @@ test-lists-spec =
     not-packed-requires-4
     returns-4
     test-list-requires
+    enum-known-verdict
     enum-told
-    enum-told-2
-    faulty-list-requires
-    returns-5
     file-bits-requires
     bytes-for-requires
-    not-packed-requires-5
-    returns-6
-    returns-7)
+    test-room-requires
+    returns-5
+    returns-6)

@@ -1,32 +1,20 @@
 -- `file::unpack_as` meets its contract: the check's answer decides, then the rooms, and then both are filled. Assumes nothing.
-use mathlib.Core.Path.{_≡_, ap, sym, _∙_}
-use mathlib.Core.List.{List, _++_}
-use Prim.Native.Nat.{ℕ, _*_, _≤_}
+use mathlib.Core.Path.{_≡_, _∙_}
+use mathlib.Core.List.{List}
+use Prim.Native.Nat.{ℕ, _≤_}
 use native.Mathlib.Nat.{mul-comm}
 use native.Mathlib.Omega.{arith}
 use borrow.Author.Needs.{needs}
 use denote.Ref.{now}
-use lib.ListN.{length, drop, replicate}
-use Rattle.bits.specs.Bits.{fields}
 use Rattle.file.specs.declared.Profile.{Profile}
 use Rattle.file.specs.declared.Reading.{Reading}
-use Rattle.file.specs.Layout.{headerBits, edgesBegin, flat}
-use Rattle.file.specs.Contents.{statesIn, countIn, coloursIn, edgesFrom, edgesIn}
+use Rattle.file.specs.Layout.{flat}
+use Rattle.file.specs.Contents.{coloursIn, edgesIn}
 use Rattle.file.specs.Refusals.{laid}
 use Rattle.file.proofs.Bounds.{states-high, count-high, colours-high}
-use Rattle.file.proofs.EdgeLists.{length-flat}
-use Rattle.file.proofs.Files.{length-colours, length-edges-in}
 use Rattle.file.proofs.Calls.{ReadIs, read-is, unpack-refused, short-colours, short-edges, unpack-filled, colours-laid, edges-laid}
 use Rattle.file.proofs.unpack_as.Statement.{statement}
 use Rattle.file.proofs.unpack_as.Tie as tie
-use Rattle.file.proofs.unpack_as.Reads as reads
-use Rattle.file.proofs.unpack_as.Lts as lts
-use Rattle.bits.proofs.get_run.Reads as get-run-reads
-use Rattle.file.proofs.check_as.Reads as check-as-reads
-use Rattle.file.proofs.edges.get.Reads as get-reads
-use Rattle.file.proofs.layout.edges_begin.Reads as edges-begin-reads
-use Rattle.file.proofs.layout.header_bits.Reads as header-bits-reads
-use Rattle.file.proofs.passed_on.Reads as passed-on-reads
 
 -- ---- the places of the code, back to the start
 

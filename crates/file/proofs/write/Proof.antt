@@ -1,7 +1,7 @@
 -- `file::write` meets its contract: header, colours, edges and filling are the fields of the file, one after another. Assumes nothing.
-use mathlib.Core.Path.{_≡_, ap, ap₂, sym, _∙_}
+use mathlib.Core.Path.{_≡_, ap, ap₂, _∙_}
 use mathlib.Core.List.{List, _∷_, []}
-use Prim.Native.Nat.{ℕ, _*_, _/_, _%_, _≤_}
+use Prim.Native.Nat.{ℕ, _/_, _%_, _≤_}
 use native.Mathlib.Nat.{mul-comm}
 use native.Mathlib.Omega.{arith}
 use borrow.Author.Needs.{needs}
@@ -11,7 +11,7 @@ use lib.ListN.{length, replicate}
 use Rattle.bits.specs.Bits.{Bytes, putField, putFields}
 use Rattle.meaning.specs.Filter.{Filter}
 use Rattle.file.specs.Layout as Layout
-use Rattle.file.specs.Layout.{headerBits, edgesBegin, fileBits, bytesFor, fileLength, fillBits, edgeWidths, lengthOf}
+use Rattle.file.specs.Layout.{fileBits, bytesFor, fileLength, fillBits, edgeWidths, lengthOf}
 use Rattle.file.specs.Refusals.{threes, listed}
 use Rattle.file.proofs.Bounds.{colours-high}
 use Rattle.file.proofs.Tests.{Written}

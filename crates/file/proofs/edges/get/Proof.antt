@@ -1,7 +1,7 @@
 -- `file::edges::get` meets its contract. The invariant: the edges read so far stand at the room's beginning, the rest is as found.
 -- Assumes nothing.
-use mathlib.Core.Path.{_≡_, refl, sym, ap, _∙_}
-use mathlib.Core.List.{_∷_, [], _++_}
+use mathlib.Core.Path.{_≡_, refl, ap, _∙_}
+use mathlib.Core.List.{_++_}
 use Prim.Native.Nat.{_+_, _*_, _-_, _<_, _≤_}
 use native.Mathlib.Nat.{mul-suc, le-antisymm}
 use native.Mathlib.Numerals.{add-one}
@@ -11,9 +11,9 @@ use denote.Ref.{now}
 use lib.ListN.{length, drop, length-set}
 use Rattle.file.specs.Layout.{edgeBits, flat}
 use Rattle.file.specs.Contents.{edgesFrom}
-use Rattle.file.specs.Verdicts.{edgeOf}
+use Rattle.file.specs.Code.{edgeOf}
 use Rattle.file.proofs.Bounds.{edges-high}
-use Rattle.file.proofs.EdgeLists.{length-flat, length-edges, edges-more, flat-append, store-edge}
+use Rattle.file.proofs.EdgeLists.{length-flat, length-edges, edges-more, store-edge}
 use Rattle.file.proofs.edges.get.Statement.{statement}
 use Rattle.file.proofs.edges.get.Tie as tie
 

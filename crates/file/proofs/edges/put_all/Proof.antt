@@ -9,13 +9,12 @@ use borrow.Author.Needs.{needs}
 use denote.Ref.{now}
 use lib.ListN.{length, getD, take}
 use lib.Seq.{take-length}
-use Rattle.bits.specs.Bits.{putField, putFields, Fit}
+use Rattle.bits.specs.Bits.{putField, putFields}
 use Rattle.bits.proofs.Runs.{fit-length}
 use Rattle.meaning.specs.Filter.{Edge}
 use Rattle.file.specs.Layout.{edgeBits, edgeWidths}
-use Rattle.file.specs.Verdicts.{edgeOf, edgeIn}
 use Rattle.file.proofs.Bounds.{edges-high}
-use Rattle.file.proofs.EdgeLists.{length-widths, Fits, fit-edge, puts-edge}
+use Rattle.file.proofs.EdgeLists.{length-widths, fit-edge, puts-edge}
 use Rattle.file.proofs.edges.put_all.Statement.{statement}
 use Rattle.file.proofs.edges.put_all.Tie as tie
 

@@ -9,51 +9,37 @@ use Rattle.file.proofs.EdgeLists.{parts}
 use borrow.Author.Needs.{needs}
 use Rattle.file.proofs.edges.read.Statement.{statement}
 use Rattle.file.proofs.edges.read.Tie as tie
-use Rattle.file.proofs.edges.read.Reads as reads
-use Rattle.file.proofs.edges.read.Lts as lts
-use Rattle.bits.proofs.get.Reads as get-reads
 
--- src/edges.rt:36:33
 add-get : tie.Need-add-get
 add-get c = search needs
 
--- src/edges.rt:36:33
 add-get-2 : tie.Need-add-get-2
 add-get-2 c = search needs
 
--- src/edges.rt:36:13
 get-requires : tie.Need-get-requires
 get-requires c κs = search needs
 
--- src/edges.rt:38:23
 add-t8 : tie.Need-add-t8
 add-t8 c = search needs
 
--- src/edges.rt:38:17
 shr-t9 : tie.Need-shr-t9
 shr-t9 c = search needs
 
--- src/edges.rt:39:17
 shr-t10 : tie.Need-shr-t10
 shr-t10 c = search needs
 
--- src/edges.rt:39:33
 shl-t11 : tie.Need-shl-t11
 shl-t11 c = search needs
 
--- src/edges.rt:39:16
 rem-t12 : tie.Need-rem-t12
 rem-t12 c = rw (one-shl (c .before .before .args .p .labels) (omega arith)) (pow-pos (c .before .before .args .p .labels))
 
--- src/edges.rt:40:22
 shl-t13 : tie.Need-shl-t13
 shl-t13 c = search needs
 
--- src/edges.rt:40:17
 rem-t14 : tie.Need-rem-t14
 rem-t14 c = rw (one-shl (c .before .before .args .p .states) (omega arith)) (pow-pos (c .before .before .args .p .states))
 
--- src/edges.rt:30:1
 returns : tie.Need-returns
 unfolding edgeAt
 returns c = let a = c .before .before .args in let q = parts (now (a .file)) (a .at) (a .p .states) (a .p .labels) in rw (one-shl (a .p .labels) (omega arith), one-shl (a .p .states) (omega arith), c .get .ensures .0, q .first, q .second, q .third) (refl, (lt-of-lt-of-le (field-lt _ _ _) (pow-mono {j = 8} (c .before .before .pre .states≤)), lt-of-lt-of-le (field-lt _ _ _) (pow-mono {j = 8} (c .before .before .pre .labels≤)), lt-of-lt-of-le (field-lt _ _ _) (pow-mono {j = 8} (c .before .before .pre .states≤))))

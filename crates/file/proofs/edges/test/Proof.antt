@@ -1,6 +1,6 @@
 -- `file::edges::test` meets its contract: each way out has passed the tests before it. Assumes nothing.
 use mathlib.Core.Path.{_≡_}
-use native.Mathlib.Nat.{le-antisymm, ne-of-lt}
+use native.Mathlib.Nat.{le-antisymm}
 use native.Mathlib.Omega.{arith}
 use borrow.Author.Needs.{needs}
 use borrow.Author.Tests.{lt-ltb, le-ltb, eq-eqb, ne-eqb}

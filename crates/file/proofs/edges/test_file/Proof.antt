@@ -15,21 +15,16 @@ use lib.Dec.{eqb}
 use Rattle.file.specs.Layout.{edgeBits}
 use Rattle.file.specs.Contents.{edgesFrom}
 use Rattle.file.specs.Refusals.{firstFault}
-use Rattle.file.specs.Verdicts.{edgeOf, behind, faultOf}
+use Rattle.file.specs.Code.{edgeOf, edgeBefore, faultOf}
 use Rattle.file.proofs.Bounds.{edges-high}
 use Rattle.file.proofs.EdgeLists.{edges-cons, fault-here, fault-next}
 use Rattle.file.proofs.edges.test_file.Statement.{statement}
 use Rattle.file.proofs.edges.test_file.Tie as tie
-use Rattle.file.proofs.edges.test_file.Reads as reads
-use Rattle.file.proofs.edges.test_file.Lts as lts
-use Rattle.file.proofs.edges.read.Reads as read-reads
-use Rattle.file.proofs.edges.test.Reads as test-reads
-use Rattle.file.proofs.layout.edge_bits.Reads as edge-bits-reads
 
 abbrev Inv-loop : tie.InvT-loop
 Inv-loop p file at n m e width before₀ place₀ i₀ before place i =
     (i ≤ e) × (place ≡ at + edgeBits p * i)
-    × (firstFault n m none 0 (edgesFrom p file at e) ≡ firstFault n m (behind (eqb i 0) before) i (edgesFrom p file place (e - i)))
+    × (firstFault n m none 0 (edgesFrom p file at e) ≡ firstFault n m (edgeBefore (eqb i 0) before) i (edgesFrom p file place (e - i)))
 
 abbrev μ-loop : tie.MeasureT-loop
 μ-loop p file at n m e width before₀ place₀ i₀ before place i = e - i
@@ -65,7 +60,7 @@ returns c =
     let here : edgesFrom (a .p) (now (a .file)) (loop .place) (a .e - loop .i) ≡ edge ∷ rest =
     edges-cons (a .p) (now (a .file)) (loop .place) (a .e) (loop .i) (omega arith) ∙ rw (c .before .before .before .read .ensures .0) in
     ap faultOf (g .1)
-    ∙ fault-here (a .n) (a .m) (loop .i) (behind (eqb (loop .i) 0) (loop .before)) edge rest _ (sym (ap faultOf (g .1)) ∙ c .before .before .test .ensures)
+    ∙ fault-here (a .n) (a .m) (loop .i) (edgeBefore (eqb (loop .i) 0) (loop .before)) edge rest _ (sym (ap faultOf (g .1)) ∙ c .before .before .test .ensures)
     ∙ sym (loop .inv .2 ∙ rw here)
 
 add-place : tie.Need-add-place Inv-loop μ-loop
@@ -94,7 +89,7 @@ loop-again c =
       omega arith,
       rw (bits, loop .inv .1, add-one (loop .i), mul-suc (edgeBits (a .p)) (loop .i)) (omega arith),
       loop .inv .2
-          ∙ rw (here, bits, later) (fault-next (a .n) (a .m) (loop .i) (behind (eqb (loop .i) 0) (loop .before)) edge rest (sym (ap faultOf (g .1)) ∙ c .before .before .test .ensures)),
+          ∙ rw (here, bits, later) (fault-next (a .n) (a .m) (loop .i) (edgeBefore (eqb (loop .i) 0) (loop .before)) edge rest (sym (ap faultOf (g .1)) ∙ c .before .before .test .ensures)),
     )
 
 returns-2 : tie.Need-returns-2 Inv-loop μ-loop

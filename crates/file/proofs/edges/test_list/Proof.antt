@@ -12,14 +12,14 @@ use denote.Ref.{now}
 use lib.Dec.{eqb}
 use lib.ListN.{length, drop}
 use Rattle.file.specs.Refusals.{firstFault, threes}
-use Rattle.file.specs.Verdicts.{edgeOf, behind, faultOf}
+use Rattle.file.specs.Code.{edgeOf, edgeBefore, faultOf}
 use Rattle.file.proofs.EdgeLists.{threes-cons, threes-end, fault-here, fault-next}
 use Rattle.file.proofs.edges.test_list.Statement.{statement}
 use Rattle.file.proofs.edges.test_list.Tie as tie
 
 abbrev Inv-loop : tie.InvT-loop
 Inv-loop edges n m e before₀ i₀ before i =
-    (i ≤ e) × (firstFault n m none 0 (threes edges) ≡ firstFault n m (behind (eqb i 0) before) i (threes (drop (3 * i) edges)))
+    (i ≤ e) × (firstFault n m none 0 (threes edges) ≡ firstFault n m (edgeBefore (eqb i 0) before) i (threes (drop (3 * i) edges)))
 
 abbrev μ-loop : tie.MeasureT-loop
 μ-loop edges n m e before₀ i₀ before i = e - i
@@ -49,7 +49,7 @@ returns c =
     let here : threes (drop (3 * loop .i) (now (a .edges))) ≡ edge ∷ rest =
     threes-cons (now (a .edges)) (3 * loop .i) (omega arith) ∙ rw (c .before .before .before .listed .ensures) in
     ap faultOf (g .1)
-    ∙ fault-here (a .n) (a .m) (loop .i) (behind (eqb (loop .i) 0) (loop .before)) edge rest _ (sym (ap faultOf (g .1)) ∙ c .before .before .test .ensures)
+    ∙ fault-here (a .n) (a .m) (loop .i) (edgeBefore (eqb (loop .i) 0) (loop .before)) edge rest _ (sym (ap faultOf (g .1)) ∙ c .before .before .test .ensures)
     ∙ sym (loop .inv .1 ∙ rw here)
 
 add-i : tie.Need-add-i Inv-loop μ-loop
@@ -71,7 +71,7 @@ loop-again c =
     let later : eqb (loop .i + 1) 0 ≡ false = ne-eqb (loop .i + 1) 0 (λ z. omega arith) in (
       omega arith,
       loop .inv .1
-          ∙ rw (here, next, later) (fault-next (a .n) (a .m) (loop .i) (behind (eqb (loop .i) 0) (loop .before)) edge rest (sym (ap faultOf (g .1)) ∙ c .before .before .test .ensures)),
+          ∙ rw (here, next, later) (fault-next (a .n) (a .m) (loop .i) (edgeBefore (eqb (loop .i) 0) (loop .before)) edge rest (sym (ap faultOf (g .1)) ∙ c .before .before .test .ensures)),
     )
 
 returns-2 : tie.Need-returns-2 Inv-loop μ-loop

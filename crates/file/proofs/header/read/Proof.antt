@@ -4,43 +4,31 @@ use Rattle.file.specs.Contents.{statesIn, labelsIn, startIn, countIn}
 use borrow.Author.Needs.{needs}
 use Rattle.file.proofs.header.read.Statement.{statement}
 use Rattle.file.proofs.header.read.Tie as tie
-use Rattle.file.proofs.header.read.Reads as reads
-use Rattle.file.proofs.header.read.Lts as lts
-use Rattle.bits.proofs.get.Reads as get-reads
 
--- src/header.rt:16:20
 add-at-start : tie.Need-add-at-start
 add-at-start c = search needs
 
--- src/header.rt:18:17
 get-requires : tie.Need-get-requires
 get-requires c κs = search needs
 
--- src/header.rt:18:17
 add-t6 : tie.Need-add-t6
 add-t6 c = omega (arith, pow-mono {j = 8} (c .before .before .before .pre .states≤))
 
--- src/header.rt:19:17
 get-requires-2 : tie.Need-get-requires-2
 get-requires-2 c κs = search needs
 
--- src/header.rt:19:17
 add-t9 : tie.Need-add-t9
 add-t9 c = omega (arith, pow-mono {j = 8} (c .before .before .before .before .pre .labels≤))
 
--- src/header.rt:20:16
 get-requires-3 : tie.Need-get-requires-3
 get-requires-3 c κs = search needs
 
--- src/header.rt:21:32
 add-get : tie.Need-add-get
 add-get c = search needs
 
--- src/header.rt:21:16
 get-requires-4 : tie.Need-get-requires-4
 get-requires-4 c κs = search needs
 
--- src/header.rt:12:1
 returns : tie.Need-returns
 unfolding statesIn labelsIn startIn countIn
 returns c = rw (c .before .before .before .before .get .ensures .0, c .before .before .before .get2 .ensures .0, c .before .before .get3 .ensures .0, c .get4 .ensures .0)

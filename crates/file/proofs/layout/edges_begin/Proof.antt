@@ -4,23 +4,16 @@ use Rattle.file.specs.Layout.{edgesBegin}
 use borrow.Author.Needs.{needs}
 use Rattle.file.proofs.layout.edges_begin.Statement.{statement}
 use Rattle.file.proofs.layout.edges_begin.Tie as tie
-use Rattle.file.proofs.layout.edges_begin.Reads as reads
-use Rattle.file.proofs.layout.edges_begin.Lts as lts
-use Rattle.file.proofs.layout.header_bits.Reads as header-bits-reads
 
--- src/layout.rt:26:5
 header-bits-requires : tie.Need-header-bits-requires
 header-bits-requires c κs = search needs
 
--- src/layout.rt:26:22
 mul-result : tie.Need-mul-result
 mul-result c = omega (arith, colours-high (c .before .before .args .p) (c .before .before .pre .0) (c .before .before .args .n) (c .before .before .pre .1))
 
--- src/layout.rt:26:5
 add-result : tie.Need-add-result
 add-result c = omega (arith, colours-high (c .before .before .args .p) (c .before .before .pre .0) (c .before .before .args .n) (c .before .before .pre .1))
 
--- src/layout.rt:22:1
 returns : tie.Need-returns
 unfolding edgesBegin
 returns c = (rw (c .before .header-bits .ensures .0), omega (arith, colours-high (c .before .before .args .p) (c .before .before .pre .0) (c .before .before .args .n) (c .before .before .pre .1)))

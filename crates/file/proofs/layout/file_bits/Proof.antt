@@ -5,28 +5,19 @@ use Rattle.file.specs.Layout.{fileBits}
 use borrow.Author.Needs.{needs}
 use Rattle.file.proofs.layout.file_bits.Statement.{statement}
 use Rattle.file.proofs.layout.file_bits.Tie as tie
-use Rattle.file.proofs.layout.file_bits.Reads as reads
-use Rattle.file.proofs.layout.file_bits.Lts as lts
-use Rattle.file.proofs.layout.edge_bits.Reads as edge-bits-reads
-use Rattle.file.proofs.layout.edges_begin.Reads as edges-begin-reads
 
--- src/layout.rt:33:5
 edges-begin-requires : tie.Need-edges-begin-requires
 edges-begin-requires c κs = search needs
 
--- src/layout.rt:33:25
 edge-bits-requires : tie.Need-edge-bits-requires
 edge-bits-requires c κs = search needs
 
--- src/layout.rt:33:25
 mul-result : tie.Need-mul-result
 mul-result c = rw (c .edge-bits .ensures .0) (omega (arith, edges-high (c .before .before .args .p) (c .before .before .pre .0) (c .before .before .args .e) (c .before .before .pre .2)))
 
--- src/layout.rt:33:5
 add-result : tie.Need-add-result
 add-result c = rw (c .edge-bits .ensures .0) (omega (arith, edges-high (c .before .before .args .p) (c .before .before .pre .0) (c .before .before .args .e) (c .before .before .pre .2)))
 
--- src/layout.rt:29:1
 returns : tie.Need-returns
 unfolding fileBits
 returns c = rw (c .edge-bits .ensures .0, c .before .edges-begin .ensures .0) (refl, file-high (c .before .before .args .p) (c .before .before .pre .0) (c .before .before .args .n) (c .before .before .args .e) (c .before .before .pre .1) (c .before .before .pre .2))

@@ -2,22 +2,16 @@ use Rattle.file.specs.Layout.{headerBits}
 use borrow.Author.Needs.{needs}
 use Rattle.file.proofs.layout.header_bits.Statement.{statement}
 use Rattle.file.proofs.layout.header_bits.Tie as tie
-use Rattle.file.proofs.layout.header_bits.Reads as reads
-use Rattle.file.proofs.layout.header_bits.Lts as lts
 
--- src/layout.rt:12:5
 add-result : tie.Need-add-result
 add-result c = search needs
 
--- src/layout.rt:12:5
 add-result-2 : tie.Need-add-result-2
 add-result-2 c = search needs
 
--- src/layout.rt:12:5
 add-result-3 : tie.Need-add-result-3
 add-result-3 c = search needs
 
--- src/layout.rt:8:1
 returns : tie.Need-returns
 unfolding headerBits
 returns c = search needs

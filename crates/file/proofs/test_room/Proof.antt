@@ -1,0 +1,17 @@
+-- `file::test_room` meets its contract. Assumes nothing.
+use borrow.Author.Needs.{needs}
+use borrow.Author.Tests.{lt-ltb, le-ltb}
+use Rattle.file.proofs.test_room.Statement.{statement}
+use Rattle.file.proofs.test_room.Tie as tie
+
+not-packed-requires : tie.Need-not-packed-requires
+not-packed-requires c κs = search needs
+
+returns : tie.Need-returns
+returns c = rw (c .not-packed .ensures, lt-ltb _ _ (c .before .if1 .taken))
+
+returns-2 : tie.Need-returns-2
+returns-2 c = rw (le-ltb _ _ (c .if1 .left))
+
+pub test-room-spec : {M : Type 1} → statement M
+test-room-spec = tie.close (tie.spec not-packed-requires returns returns-2)
