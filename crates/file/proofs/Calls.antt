@@ -23,10 +23,11 @@ use Rattle.file.specs.declared.Packed.the-variants as packed
 use Rattle.file.specs.Layout.{headerBits, edgesBegin, flat, written}
 use Rattle.file.specs.Contents.{statesIn, labelsIn, startIn, countIn, coloursIn, edgesFrom, edgesIn}
 use Rattle.file.specs.Answers.{Outcome, accepted, refused, readingOutcome, refusalOutcome, checkedOutcome, unpackedOutcome, packedOutcome}
-use Rattle.file.specs.Refusals.{andThen, checkOf, numbersIn, unpackTests, unpackOf, packOf, listed, laid}
+use Rattle.file.specs.Refusals.{firstOf, onward, checkOf, numbersIn, unpackTests, unpackOf, packOf, listed, laid}
 use Rattle.file.specs.Promise.{CheckPromise, UnpackPromise, PackPromise}
 use Rattle.file.proofs.EdgeLists.{length-flat}
-use Rattle.file.proofs.Tests.{clash, first-accepted, Sound, check-sound}
+use Rattle.meaning.specs.TraceLaws.{clash}
+use Rattle.file.proofs.Tests.{first-accepted, Sound, check-sound}
 use Rattle.file.proofs.Files.{length-colours, length-edges-in}
 
 or-left : (a b : Bool) → a ≡ true → a || b ≡ true
@@ -55,16 +56,16 @@ roomy P s c e hc he = or-neither (ltb c (statesIn P s)) (ltb e (3 * countIn P s)
 
 pub unpack-accepts : (P : Profile) (s vs : List ℕ) (c e : ℕ) → checkOf P s ≡ accepted vs → statesIn P s ≤ c → 3 * countIn P s ≤ e → unpackOf P s c e ≡ accepted vs
 unfolding unpackOf
-unpack-accepts P s vs c e h hc he = rw (h, roomy P s c e hc he)
+unpack-accepts P s vs c e h hc he = rw (h, roomy P s c e hc he) (ap accepted (check-sound P s vs h .1))
 
 -- an accepted unpacking is one of an accepted file
 pub unpack-checked : (P : Profile) (s vs : List ℕ) (c e : ℕ) → unpackOf P s c e ≡ accepted vs → checkOf P s ≡ accepted vs
 unfolding unpackOf
-unpack-checked P s vs c e h = go (checkOf P s) h
+unpack-checked P s vs c e h = go (checkOf P s) refl h
   where
-    go : (o : Outcome) → andThen o (unpackTests P s c e) ≡ accepted vs → o ≡ accepted vs
-    go (accepted us) k = first-accepted (unpackTests P s c e) (accepted us) vs k .1
-    go (refused n p) k = clash cc
+    go : (o : Outcome) → checkOf P s ≡ o → onward o (firstOf (unpackTests P s c e) (accepted (numbersIn P s))) ≡ accepted vs → checkOf P s ≡ accepted vs
+    go (accepted us) q k = q ∙ ap accepted (sym (check-sound P s us q .1)) ∙ first-accepted (unpackTests P s c e) (accepted (numbersIn P s)) vs k .1
+    go (refused n p) q k = clash cc
 
 -- The numbers of a reading are the file's.
 pub record ReadIs (P : Profile) (s : List ℕ) (r : Reading) : Type 0 where
@@ -75,20 +76,22 @@ pub record ReadIs (P : Profile) (s : List ℕ) (r : Reading) : Type 0 where
   pub start-is : r .start ≡ startIn P s
   pub count-is : r .edges ≡ countIn P s
 
+pub reading-is : (P : Profile) (s : List ℕ) (r : Reading) → checkOf P s ≡ readingOutcome r → ReadIs P s r
+reading-is P s r h =
+    let q = check-sound P s _ h in
+    let n : numbersIn P s ≡ r .states ∷ r .labels ∷ r .start ∷ r .edges ∷ [] = q .1 in
+    record {
+      sound = q .0;
+      answer = h;
+      states-are = cc;
+      labels-are = cc;
+      start-is = cc;
+      count-is = cc;
+    }
+
 module _ (P : Profile) (s : List ℕ) (a : Checked) (p : CheckPromise P s a) where
   pub read-is : (r : Reading) → a ≡ checked.Accepted r → ReadIs P s r
-  read-is r e =
-      let h : checkOf P s ≡ readingOutcome r = sym p ∙ ap checkedOutcome e in
-      let q = check-sound P s _ h in
-      let n : numbersIn P s ≡ r .states ∷ r .labels ∷ r .start ∷ r .edges ∷ [] = q .1 in
-      record {
-        sound = q .0;
-        answer = h;
-        states-are = cc;
-        labels-are = cc;
-        start-is = cc;
-        count-is = cc;
-      }
+  read-is r e = reading-is P s r (sym p ∙ ap checkedOutcome e)
 
   module _ (colours edges : List ℕ) where
     -- a refused file ends the call with that same refusal

@@ -4,7 +4,7 @@ use mathlib.Core.Path.{_≡_, refl, sym, ap, _∙_}
 use mathlib.Core.List.{List, [], _∷_, _++_, append-assoc}
 use mathlib.Core.Option.{Option, none, some}
 use Prim.Native.Nat.{ℕ, zero, suc, _+_, _*_, _-_, _/_, _%_, _^_, _≤_, _<_}
-use native.Mathlib.Nat.{add-assoc, add-zero, mul-zero, mul-suc, suc-mul, mul-le-mul-right, mod-eq-of-lt}
+use native.Mathlib.Nat.{add-assoc, add-zero, mul-zero, mul-suc, suc-mul, suc-add, zero-add, mul-le-mul-right, mod-eq-of-lt}
 use native.Mathlib.Numerals.{add-one}
 use native.Mathlib.Omega.{arith}
 use lib.ListN.{length, getD, set, take, drop, length-append, length-drop}
@@ -19,7 +19,7 @@ use Rattle.file.specs.declared.Profile.{Profile}
 use Rattle.file.specs.Layout.{edgeBits, edgeWidths, flat}
 use Rattle.file.specs.Contents.{edgeAt, edgesFrom}
 use Rattle.file.specs.Refusals.{Fault, edgeFault, faultAt, firstFault, threes}
-use Rattle.file.proofs.Tests.{clash}
+use Rattle.meaning.specs.TraceLaws.{clash}
 
 -- ---- as bytes, three an edge
 
@@ -86,6 +86,21 @@ pub edges-cons : (P : Profile) (s : List ℕ) (at e i : ℕ) → i < e →
     edgesFrom P s at (e - i) ≡ edgeAt P s at ∷ edgesFrom P s (at + edgeBits P) (e - (i + 1))
 unfolding edgesFrom
 edges-cons P s at e i h = let k : e - i ≡ suc (e - (i + 1)) = omega arith in rw k
+
+-- the first edges, and those behind them
+edges-append : (P : Profile) (s : List ℕ) (at i k : ℕ) → edgesFrom P s at (i + k) ≡ edgesFrom P s at i ++ edgesFrom P s (at + edgeBits P * i) k
+unfolding edgesFrom
+edges-append P s at zero k = rw (zero-add k, mul-zero (edgeBits P), add-zero at)
+edges-append P s at (suc i) k =
+    let h : at + edgeBits P + edgeBits P * i ≡ at + edgeBits P * suc i = omega (arith, mul-suc (edgeBits P) i) in
+    rw (suc-add i k, edges-append P s (at + edgeBits P) i k, h)
+
+-- edge i between those before it and those behind it
+pub edges-around : (P : Profile) (s : List ℕ) (at e i : ℕ) → i < e →
+    edgesFrom P s at e ≡ edgesFrom P s at i ++ (edgeAt P s (at + edgeBits P * i) ∷ edgesFrom P s (at + edgeBits P * i + edgeBits P) (e - (i + 1)))
+edges-around P s at e i h =
+    let k : i + (e - i) ≡ e = omega arith in
+    ap (edgesFrom P s at) (sym k) ∙ edges-append P s at i (e - i) ∙ rw (edges-cons P s (at + edgeBits P * i) e i h)
 
 -- one edge more, at the end
 edges-snoc : (P : Profile) (s : List ℕ) (at e : ℕ) →

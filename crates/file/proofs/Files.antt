@@ -25,7 +25,8 @@ use Rattle.file.specs.Contents.{statesIn, labelsIn, startIn, countIn, co
 use Rattle.file.specs.Refusals.{allBelow, threes, laid}
 use Rattle.file.proofs.Bounds.{states-low, labels-low, states-fit, labels-fit, states-pow, labels-pow}
 use Rattle.file.proofs.EdgeLists.{fields-edges, length-edges, length-widths, total-edges, length-flat, threes-flat}
-use Rattle.file.proofs.Tests.{and-left, and-right, Sound, Writable, fault-free}
+use Rattle.meaning.specs.TraceLaws.{and-left, and-right}
+use Rattle.file.proofs.Tests.{Sound, Writable, fault-free}
 
 -- ---- the fields of a file
 

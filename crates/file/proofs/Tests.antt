@@ -9,15 +9,14 @@ use native.Mathlib.Omega.{arith}
 use lib.Dec.{eqb, leb, ltb}
 use lib.ListN.{length}
 use borrow.Author.Tests.{lt-ltb, le-ltb, le-leb, lt-leb, eq-eqb, ltb-true, ltb-false, leb-true, leb-false, eqb-true, eqb-false, not-false}
+use Rattle.meaning.specs.Pick.{pick}
+use Rattle.meaning.specs.TraceLaws.{clash, and-left, and-right}
 use Rattle.meaning.specs.Filter.{Edge, Filter, states, inside, comesBefore, samePlace, allInside, leads, ascending, inOrder}
 use Rattle.file.specs.declared.Profile.{Profile}
 use Rattle.file.specs.Layout.{headerBits, bytesFor, lengthOf}
 use Rattle.file.specs.Contents.{statesIn, labelsIn, startIn, countIn, edgesIn, lengthIn, fillingIn}
 use Rattle.file.specs.Answers.{Outcome, accepted, refused}
-use Rattle.file.specs.Refusals.{Test, pick, firstOf, orderFault, edgeFault, Fault, faultAt, firstFault, edgesThen, placeInFile, placeInList, fileTests, numbersIn, fromEdges, checkOf, within, allBelow, holdable, writeTests, roomTest, writeOf}
-
-pub clash : {A : Type 0} → _≡_ {A = ℕ} 0 1 → A
-clash z = let no : ⊥ = omega arith in absurd no
+use Rattle.file.specs.Refusals.{Test, firstOf, orderFault, edgeFault, Fault, faultAt, firstFault, edgesThen, placeInFile, placeInList, fileTests, numbersIn, fromEdges, checkOf, within, allBelow, holdable, writeTests, roomTest, writeOf}
 
 -- ---- tests in a row
 
@@ -83,8 +82,8 @@ pick-clear false k next h = (refl, h)
 
 order-clear : (e b : Edge) → orderFault (some b) e ≡ none → comesBefore b e ≡ true
 order-clear e b h =
-    let p = pick-clear (comesBefore e b) 8 _ h in
-    let q = pick-clear (samePlace e b) 9 none (p .1) in
+    let p = pick-clear (comesBefore e b) _ _ h in
+    let q = pick-clear (samePlace e b) _ none (p .1) in
     after e b (p .0) (q .0)
 
 inside-pick : (b : Bool) (next : Option ℕ) → pick b next (some 7) ≡ none → (b ≡ true) × (next ≡ none)
@@ -171,14 +170,6 @@ pub record Writable (P : Profile) (F : Filter) : Type 0 where
   pub start-in : F .start < states F
   pub count-in : length (F .edges) ≤ states F * F .labels
   pub clear : firstFault (states F) (F .labels) none 0 (F .edges) ≡ none
-
-pub and-left : (a b : Bool) → a && b ≡ true → a ≡ true
-and-left true b h = refl
-and-left false b h = clash cc
-
-pub and-right : (a b : Bool) → a && b ≡ true → b ≡ true
-and-right true b h = h
-and-right false b h = clash cc
 
 -- what is accepted is in order: the start is a state, every edge is inside, and the edges ascend strictly
 pub writable-in-order : (P : Profile) (F : Filter) → Writable P F → inOrder F ≡ true

@@ -7,7 +7,7 @@ use mathlib.Core.List.{List}
 use lib.ListN.{getD}
 use Rattle.meaning.specs.Filter as meaning
 use Rattle.file.specs.declared.Profile.{Profile}
-use Rattle.file.specs.declared.edges.Edge.{Edge}
+use Rattle.file.specs.declared.edge.Edge.{Edge}
 use Rattle.file.specs.declared.edges.Verdict.{Verdict}
 use Rattle.file.specs.declared.edges.Verdict.the-variants.{Faultless, Faulty}
 use Rattle.file.specs.Answers.{numberOf}

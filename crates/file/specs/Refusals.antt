@@ -7,6 +7,7 @@ use mathlib.Core.Option.{Option, none, some}
 use mathlib.Core.List.{List, [], _∷_, _++_}
 use lib.Dec.{eqb, leb, ltb}
 use lib.ListN.{length, drop}
+use Rattle.meaning.specs.Pick.{pick}
 use Rattle.meaning.specs.Filter.{Edge, Filter, states, inside, comesBefore, samePlace}
 use Rattle.file.specs.declared.Profile.{Profile}
 use Rattle.file.specs.Layout.{headerBits, bytesFor, lengthOf}
@@ -22,10 +23,6 @@ pub record Test : Type 0 where
 
 abbrev pub test : ℕ → Bool → Test
 test k b = record { number = k; given = b }
-
-abbrev pub pick : {A : Type 0} → Bool → A → A → A
-pick true a b = a
-pick false a b = b
 
 -- The first test that is given decides; where none is, what follows.
 abbrev pub firstOf : List Test → Outcome → Outcome
@@ -97,10 +94,10 @@ checkOf P file = firstOf (fileTests P file) (fromEdges P file)
 
 -- ---- unpack
 
--- A file that is refused ends the call with that same refusal; an accepted one meets the call's own tests.
-abbrev pub andThen : Outcome → List Test → Outcome
-andThen (refused k p) tests = refused k p
-andThen (accepted vs) tests = firstOf tests (accepted vs)
+-- A file that is refused ends the call with that same refusal; an accepted one goes on.
+abbrev pub onward : Outcome → Outcome → Outcome
+onward (refused k p) next = refused k p
+onward (accepted vs) next = next
 
 -- 12: the colour room is below n, or the edge room below 3e.
 abbrev pub unpackTests : Profile → List ℕ → ℕ → ℕ → List Test
@@ -108,7 +105,8 @@ unpackTests P file colourRoom edgeRoom =
     test 12 (ltb colourRoom (statesIn P file) || ltb edgeRoom (3 * countIn P file)) ∷ []
 
 unfoldable pub unpackOf : Profile → List ℕ → ℕ → ℕ → Outcome
-unpackOf P file colourRoom edgeRoom = andThen (checkOf P file) (unpackTests P file colourRoom edgeRoom)
+unpackOf P file colourRoom edgeRoom =
+    onward (checkOf P file) (firstOf (unpackTests P file colourRoom edgeRoom) (accepted (numbersIn P file)))
 
 -- ---- pack
 

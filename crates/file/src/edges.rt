@@ -1,4 +1,5 @@
-// Edges: one read from a file, the test of one behind another, and runs of them.
+// Edges tested one behind another, and runs of them read and written.
+use crate::edge::Edge;
 use crate::Kind;
 use crate::Profile;
 use crate::Refusal;
@@ -14,31 +15,10 @@ ghost use Rattle.file.specs.Contents.{edgeAt, edgesFrom};
 ghost use Rattle.file.specs.Refusals.{edgeFault, faultAt, firstFault, threes};
 ghost use Rattle.file.specs.Code.{edgeOf, edgeIn, edgeBefore, faultOf, Usable};
 
-pub struct Edge {
-    pub source: usize,
-    pub label: usize,
-    pub target: usize,
-}
-
 // What the test of edges finds: none of 7, 8 and 9, or the first of them.
 pub enum Verdict {
     Faultless,
     Faulty(Refusal),
-}
-
-// The edge whose first bit is `at`, read as one field and taken apart.
-pub fn read(p: Profile, file: &[u8], at: usize) -> Edge
-    requires { ⌜ Usable p ⌝ }
-    ensures { λ r. ⌜ (edgeOf r ≡ edgeAt p (now (file .entry)) at) × ((r .source < 256) × (r .label < 256) × (r .target < 256)) ⌝ }
-{
-    let states = p.states;
-    let labels = p.labels;
-    let v = bits::get(file, at, states + labels + states) as usize;
-    Edge {
-        source: v >> (labels + states),
-        label: (v >> states) % (1usize << labels),
-        target: v % (1usize << states),
-    }
 }
 
 fn faulty(kind: Kind, place: usize) -> Verdict
@@ -97,7 +77,7 @@ pub fn test_file(p: Profile, file: &[u8], at: usize, n: usize, m: usize, e: usiz
     let mut place = at;
     let mut i = 0;
     while i < e {
-        let edge = read(p, file, place);
+        let edge = crate::edge::read(p, file, place);
         let verdict = test(n, m, i, before, edge);
         let Verdict::Faultless = verdict else {
             return verdict;
@@ -161,7 +141,7 @@ pub fn get(p: Profile, file: &[u8], at: usize, e: usize, out: &mut [u8])
     let mut o = 0;
     let mut i = 0;
     while i < e {
-        let edge = read(p, file, place);
+        let edge = crate::edge::read(p, file, place);
         out[o] = edge.source as u8;
         out[o + 1] = edge.label as u8;
         out[o + 2] = edge.target as u8;

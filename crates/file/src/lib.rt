@@ -1,7 +1,8 @@
 // The filter file: check, unpack and pack.
-mod edges; // an edge read, tested and written; runs of them
+pub mod edge; // one edge, read from a file
+mod edges; // edges tested; runs of them read and written
 mod header; // the four numbers before the colours
-mod layout; // sizes and positions
+pub mod layout; // sizes and positions
 
 use edges::Verdict;
 ghost use mathlib.Core.Path.{_≡_};
@@ -92,7 +93,7 @@ pub fn pack(colours: &[u8], edges: &[u8], m: usize, start: usize, room: &mut [u8
     pack_as(large(), colours, edges, m, start, room)
 }
 
-fn large() -> Profile
+pub fn large() -> Profile
     ensures { λ r. ⌜ r ≡ large ⌝ }
 {
     Profile {

@@ -1,1 +1,4 @@
+pub mod Pick
 pub mod Filter
+pub mod Trace
+pub mod TraceLaws

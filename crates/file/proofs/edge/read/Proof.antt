@@ -7,8 +7,8 @@ use Rattle.bits.proofs.Reading.{one-shl, field-lt}
 use Rattle.file.specs.Contents.{edgeAt}
 use Rattle.file.proofs.EdgeLists.{parts}
 use borrow.Author.Needs.{needs}
-use Rattle.file.proofs.edges.read.Statement.{statement}
-use Rattle.file.proofs.edges.read.Tie as tie
+use Rattle.file.proofs.edge.read.Statement.{statement}
+use Rattle.file.proofs.edge.read.Tie as tie
 
 add-get : tie.Need-add-get
 add-get c = search needs

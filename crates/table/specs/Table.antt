@@ -1,0 +1,17 @@
+-- The table of edges: 64 entries a state, one a label. An entry below 256 is a target; 65,535 stands where there is no edge.
+-- Assumes nothing.
+use Prim.Native.Nat.{ℕ, _+_, _*_}
+use mathlib.Core.Bool.{_&&_}
+use mathlib.Core.List.{List}
+use mathlib.Core.Option.{Option, none, some}
+use lib.Dec.{ltb}
+use lib.ListN.{getD}
+use Rattle.meaning.specs.Pick.{pick}
+
+-- What an entry says.
+abbrev pub entry : ℕ → Option ℕ
+entry v = pick (ltb v 256) (some v) none
+
+-- The edge of a state at a label. A state or a label outside the table has none, so that no two share an entry.
+unfoldable pub look : List ℕ → ℕ → ℕ → Option ℕ
+look table s y = pick (ltb s 256 && ltb y 64) (entry (getD table (s * 64 + y) 0)) none

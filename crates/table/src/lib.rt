@@ -1,0 +1,70 @@
+// The look-up of edges, state and label to target, filled in one pass over a file.
+use file::Profile;
+use file::Reading;
+use file::edge;
+use file::layout;
+
+ghost use mathlib.Core.Path.{_≡_};
+ghost use mathlib.Core.Bool.{true};
+ghost use Prim.Native.Nat.{_+_, _*_, _<_, _≤_};
+ghost use lib.ListN.{length, getD, replicate};
+ghost use Rattle.meaning.specs.Filter.{ascending};
+ghost use Rattle.meaning.specs.Trace.{target, edge};
+ghost use Rattle.file.specs.Layout.{large};
+ghost use Rattle.file.specs.Contents.{edgesFrom, filterIn};
+ghost use Rattle.file.specs.Answers.{readingOutcome};
+ghost use Rattle.file.specs.Refusals.{checkOf};
+ghost use Rattle.file.specs.Code.{Usable};
+ghost use Rattle.table.specs.Table.{look};
+
+// A table without edges.
+fn empty() -> [u16; 16384]
+    ensures { λ r. ⌜ (r ≡ replicate 16384 65535) × (length r ≡ 16384) ⌝ }
+{
+    [65535; 16384]
+}
+
+// The table of a file that was checked, with what the check read.
+pub fn table_of(file: &[u8], reading: Reading) -> [u16; 16384]
+    requires { ⌜ checkOf large (now file) ≡ readingOutcome reading ⌝ }
+    ensures { λ r. ⌜ look r ≡ edge (filterIn large (now (file .entry))) ⌝ }
+{
+    let p = file::large();
+    let at = layout::edges_begin(p, reading.states);
+    filled(p, file, at, reading.edges)
+}
+
+// The table of e edges from bit `at` on.
+fn filled(p: Profile, file: &[u8], at: usize, e: usize) -> [u16; 16384]
+    requires { ⌜ Usable p × (p .labels ≤ 6) × (at ≤ 2096) × (e ≤ 65536) × (ascending (edgesFrom p (now file) at e) ≡ true) ⌝ }
+    ensures { λ r. ⌜ look r ≡ target (edgesFrom p (now (file .entry)) at e) ⌝ }
+{
+    let width = layout::edge_bits(p);
+    let mut table = empty();
+    let mut place = at;
+    let mut i = 0;
+    while i < e {
+        let edge = edge::read(p, file, place);
+        let source = edge.source;
+        let label = edge.label;
+        let to = edge.target as u16;
+        table[source * 64 + label] = to;
+        place += width;
+        i += 1;
+    }
+    table
+}
+
+// The entry of a state and a label: the target, or 65,535.
+pub fn entry(table: &[u16; 16384], state: usize, label: usize) -> usize
+    requires { ⌜ (state < 256) × (label < 64) ⌝ }
+    ensures { λ r. ⌜ r ≡ getD (now (table .entry)) (state * 64 + label) 0 ⌝ }
+{
+    wide(table[state * 64 + label])
+}
+
+fn wide(x: u16) -> usize
+    ensures { λ r. ⌜ r ≡ x ⌝ }
+{
+    x as usize
+}
