@@ -1,6 +1,7 @@
 //! The library's calls: a number, a place, the counts, and the rooms that were lent.
 
 use crate::file::{judge_edges, read, write, Edge, Filter, Refusal};
+use crate::trace;
 
 /// `number` is 0 where the call accepts. Every count of a refused call is 0.
 #[derive(Clone, Copy, Debug, PartialEq, Eq)]
@@ -70,6 +71,22 @@ pub fn pack(colours: &[u8], edges: &[u8], m: u64, start: u64, room: &mut [u8]) -
         room[i] = byte;
     }
     Answer::accepted([file.len() as u64, 0, 0, 0])
+}
+
+/// Counts: four zeros where the ride is traced; 1, i and two zeros where it stops at i. Fills the room with the colours
+/// shown.
+pub fn trace(file: &[u8], observations: &[u8], colour_room: &mut [u8]) -> Answer {
+    let ride = match trace::trace(file, observations, colour_room.len()) {
+        Ok(ride) => ride,
+        Err(refusal) => return Answer::refused(refusal),
+    };
+    for (i, &colour) in ride.colours.iter().enumerate() {
+        colour_room[i] = colour as u8;
+    }
+    Answer::accepted(match ride.stopped_at {
+        None => [0; 4],
+        Some(i) => [1, i, 0, 0],
+    })
 }
 
 fn sizes(filter: &Filter) -> [u64; 4] {

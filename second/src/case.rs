@@ -1,16 +1,17 @@
 //! One call with all that is lent to it, and its outcome with all that was lent.
 
-use crate::call::{check, pack, unpack, Answer};
+use crate::call::{check, pack, trace, unpack, Answer};
 
 #[derive(Clone, Copy, Debug, PartialEq, Eq, PartialOrd, Ord)]
 pub enum Call {
     Check,
     Unpack,
     Pack,
+    Trace,
 }
 
 impl Call {
-    pub const ALL: [Call; 3] = [Call::Check, Call::Unpack, Call::Pack];
+    pub const ALL: [Call; 4] = [Call::Check, Call::Unpack, Call::Pack, Call::Trace];
 
     /// The byte that stands for the call in a batch.
     pub fn byte(self) -> u8 {
@@ -18,6 +19,7 @@ impl Call {
             Call::Check => 1,
             Call::Unpack => 2,
             Call::Pack => 3,
+            Call::Trace => 4,
         }
     }
 
@@ -27,6 +29,7 @@ impl Call {
             Call::Check => &[0, 1, 2, 3, 4, 5, 6, 7, 8, 9],
             Call::Unpack => &[0, 1, 2, 3, 4, 5, 6, 7, 8, 9, 12],
             Call::Pack => &[0, 14, 2, 3, 7, 8, 9, 10],
+            Call::Trace => &[0, 1, 2, 3, 4, 5, 6, 7, 8, 9, 12, 13],
         }
     }
 }
@@ -76,6 +79,17 @@ impl Case {
         }
     }
 
+    pub fn trace(file: Vec<u8>, observations: Vec<u8>, colour_room: Vec<u8>) -> Case {
+        Case {
+            call: Call::Trace,
+            first: 0,
+            second: 0,
+            a: file,
+            b: observations,
+            c: colour_room,
+        }
+    }
+
     /// Makes the call.
     pub fn outcome(&self) -> Outcome {
         let mut b = self.b.clone();
@@ -84,6 +98,7 @@ impl Case {
             Call::Check => check(&self.a),
             Call::Unpack => unpack(&self.a, &mut b, &mut c),
             Call::Pack => pack(&self.a, &self.b, self.first, self.second, &mut c),
+            Call::Trace => trace(&self.a, &self.b, &mut c),
         };
         Outcome { answer, b, c }
     }

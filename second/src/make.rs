@@ -7,6 +7,7 @@ pub mod files;
 pub mod filters;
 pub mod lists;
 pub mod rooms;
+pub mod traces;
 
 use crate::case::Case;
 use crate::random::Random;
@@ -40,7 +41,7 @@ pub fn batch(random: &mut Random) -> Vec<Made> {
             }
         }
     }
-    for family in lists::FAMILIES {
+    for family in lists::FAMILIES.iter().chain(traces::FAMILIES) {
         for _ in 0..family.times {
             for case in (family.make)(random) {
                 batch.push(Made {

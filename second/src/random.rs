@@ -1,5 +1,19 @@
 //! Random numbers of which a whole run follows from one seed.
 
+use std::env;
+use std::time::{SystemTime, UNIX_EPOCH};
+
+/// From the environment variable SEED, to make a run again, or from the clock.
+pub fn seed() -> u64 {
+    match env::var("SEED") {
+        Ok(text) => text.trim().parse().expect("SEED is not a number"),
+        Err(_) => SystemTime::now()
+            .duration_since(UNIX_EPOCH)
+            .expect("a clock after 1970")
+            .as_nanos() as u64,
+    }
+}
+
 /// SplitMix64.
 pub struct Random {
     state: u64,

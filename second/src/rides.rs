@@ -23,6 +23,11 @@ pub const K_EDGES: &[u8] = &[0, 0, 1, 0, 1, 2, 1, 0, 0, 2, 1, 0];
 pub const K_REDUCED_COLOURS: &[u8] = &[0, 1];
 pub const K_REDUCED_EDGES: &[u8] = &[0, 0, 1, 0, 1, 1, 1, 0, 0, 1, 1, 0];
 
+/// Tracing these stops at 1 in K and is traced by K reduced.
+pub const K_OBSERVATIONS: &[u8] = &[0, 1];
+/// R's, of which the latter is no label of K.
+pub const R_OBSERVATIONS: &[u8] = &[0, 2];
+
 /// Q's edge lists, which K's colours, m = 2 and start 0 go with.
 pub const Q_LABEL_OUTSIDE: &[u8] = &[0, 2, 1];
 pub const Q_DESCENDING: &[u8] = &[0, 1, 2, 0, 0, 1];

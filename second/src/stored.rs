@@ -26,8 +26,10 @@ pub fn cases() -> Vec<Case> {
     for file in refused() {
         cases.push(Case::check(file.clone()));
         cases.push(unpack(&file, 3, 12));
+        cases.push(trace(&file, K_OBSERVATIONS, 3));
     }
     cases.extend(refused_by_pack());
+    cases.extend(traces());
     cases.extend(longer());
     cases
 }
@@ -43,6 +45,10 @@ fn unpack(file: &[u8], colours: usize, edges: usize) -> Case {
 
 fn pack(colours: &[u8], edges: &[u8], m: u64, start: u64, room: usize) -> Case {
     Case::pack(colours.to_vec(), edges.to_vec(), m, start, found(room))
+}
+
+fn trace(file: &[u8], observations: &[u8], room: usize) -> Case {
+    Case::trace(file.to_vec(), observations.to_vec(), found(room))
 }
 
 fn ride_q() -> Vec<Case> {
@@ -123,6 +129,28 @@ fn refused_by_pack() -> Vec<Case> {
             30,
         ),
         pack(K_COLOURS, Q_REPEATED, 2, 0, 0),
+    ]
+}
+
+/// K's two files and ride R; then traced to the end, without observations, stopped at the first, a middle and the last
+/// observation, with rooms too short, and with labels outside.
+fn traces() -> Vec<Case> {
+    vec![
+        trace(K, K_OBSERVATIONS, 3),
+        trace(K_REDUCED, K_OBSERVATIONS, 3),
+        trace(K, R_OBSERVATIONS, 2),
+        trace(K, R_OBSERVATIONS, 3),
+        trace(K, &[0, 0, 1, 1, 1, 1, 0, 0], 12),
+        trace(K, &[], 3),
+        trace(K, &[], 0),
+        trace(C, &[0, 0], 6),
+        trace(K, &[0, 1, 0, 0], 9),
+        trace(K, &[0, 0, 1, 0], 5),
+        // The two colours of a ride that stops at 1 would fit.
+        trace(K, &[0, 1, 0, 0], 4),
+        trace(K, &[2, 0, 0], 4),
+        // It would stop before the labels outside, of which the first is named.
+        trace(K, &[0, 1, 64, 255], 7),
     ]
 }
 

@@ -2,19 +2,20 @@
 
 mod common;
 
-use common::run_answers;
-use second::bits::Bits;
+use common::{at_once, program, run, whole};
 use second::case::{Call, Case, Outcome};
 use second::frame::{read_outcomes, write_batch};
+use second::kinds::{self, Kind};
 use second::make::{self, Made};
-use second::random::Random;
+use second::random::{seed, Random};
 use std::collections::BTreeSet;
 use std::env;
 use std::fmt::Write;
-use std::time::{SystemTime, UNIX_EPOCH};
 
 const BATCHES: usize = 20;
 const LEAST_FILES: usize = 100_000;
+/// Traces through a file that is accepted.
+const LEAST_RIDES: usize = 100_000;
 
 #[test]
 fn answers_agree() {
@@ -24,6 +25,7 @@ fn answers_agree() {
     let mut seen = BTreeSet::new();
     let mut cases = 0;
     let mut files = 0;
+    let mut rides = 0;
     for nth in 0..BATCHES {
         let batch = make::batch(&mut random);
         cases += batch.len();
@@ -31,35 +33,28 @@ fn answers_agree() {
             .iter()
             .filter(|made| made.case.call == Call::Check)
             .count();
-        compare(seed, nth, batch, &mut seen);
+        rides += compare(seed, nth, batch, &mut seen);
     }
-    println!("{cases} cases, {files} files");
+    println!("{cases} cases, {files} files, {rides} rides");
     assert!(files >= LEAST_FILES, "only {files} files were tried");
-    let missing: Vec<Seen> = everything()
+    assert!(rides >= LEAST_RIDES, "only {rides} rides were tried");
+    let missing: Vec<Kind> = Call::ALL
         .into_iter()
+        .flat_map(kinds::all_of)
         .filter(|kind| !seen.contains(kind))
         .collect();
     assert!(missing.is_empty(), "SEED={seed} never led to {missing:?}");
 }
 
-/// From the environment variable SEED, to run a batch again, or from the clock.
-fn seed() -> u64 {
-    match env::var("SEED") {
-        Ok(text) => text.trim().parse().expect("SEED is not a number"),
-        Err(_) => SystemTime::now()
-            .duration_since(UNIX_EPOCH)
-            .expect("a clock after 1970")
-            .as_nanos() as u64,
-    }
-}
-
-fn compare(seed: u64, nth: usize, batch: Vec<Made>, seen: &mut BTreeSet<Seen>) {
+/// Adds the kinds of outcome and returns the number of rides.
+fn compare(seed: u64, nth: usize, batch: Vec<Made>, seen: &mut BTreeSet<Kind>) -> usize {
     let (families, cases): (Vec<&str>, Vec<Case>) = batch
         .into_iter()
         .map(|made| (made.family, made.case))
         .unzip();
-    let ran = run_answers(write_batch(&cases));
+    let ran = run(program("answers"), whole(write_batch(&cases)), at_once);
     let (outcomes, left) = read_outcomes(&ran.stdout, &cases);
+    let mut rides = 0;
     for (i, case) in cases.iter().enumerate() {
         let own = case.outcome();
         let other = outcomes.get(i);
@@ -70,7 +65,7 @@ fn compare(seed: u64, nth: usize, batch: Vec<Made>, seen: &mut BTreeSet<Seen>) {
                 // It may have stumbled over a later case, before it wrote what it had.
                 None => format!(
                     "nothing more, and its end was: {}\nthe whole batch: {}\n",
-                    ran.status,
+                    ran.end(),
                     save(&format!("{seed}-{nth}"), &cases)
                 ),
             };
@@ -82,13 +77,17 @@ fn compare(seed: u64, nth: usize, batch: Vec<Made>, seen: &mut BTreeSet<Seen>) {
                 told(&own),
             );
         }
-        seen.extend(kinds(case, &own));
+        seen.extend(kinds::of(case, &own));
+        if case.call == Call::Trace && [0, 12, 13].contains(&own.answer.number) {
+            rides += 1;
+        }
     }
     assert!(
         left.is_empty(),
         "SEED={seed}: answers wrote more than asked"
     );
-    assert!(ran.status.success(), "SEED={seed}: answers: {}", ran.status);
+    assert!(ran.went_well(), "SEED={seed}: answers: {}", ran.end());
+    rides
 }
 
 /// Saves a batch, for either program's standard input, and says where.
@@ -145,57 +144,4 @@ fn hex(bytes: &[u8]) -> String {
         text.push_str("...");
     }
     text
-}
-
-/// Something that a run has to hit.
-#[derive(Clone, Copy, Debug, PartialEq, Eq, PartialOrd, Ord)]
-enum Seen {
-    Number(Call, u8),
-    First(Call, u8),
-    Middle(Call, u8),
-    Last(Call, u8),
-}
-
-fn everything() -> Vec<Seen> {
-    let mut all = Vec::new();
-    for call in Call::ALL {
-        for &number in call.numbers() {
-            all.push(Seen::Number(call, number));
-        }
-        // The first edge has none before it, so it can only have 7.
-        all.push(Seen::First(call, 7));
-        for number in 7..=9 {
-            all.push(Seen::Middle(call, number));
-            all.push(Seen::Last(call, number));
-        }
-    }
-    all
-}
-
-fn kinds(case: &Case, outcome: &Outcome) -> Vec<Seen> {
-    let number = outcome.answer.number;
-    let mut kinds = vec![Seen::Number(case.call, number)];
-    if (7..=9).contains(&number) {
-        let place = outcome.answer.place;
-        let last = edges_of(case) - 1;
-        if place == 0 {
-            kinds.push(Seen::First(case.call, number));
-        } else if place == last {
-            kinds.push(Seen::Last(case.call, number));
-        } else {
-            kinds.push(Seen::Middle(case.call, number));
-        }
-    }
-    kinds
-}
-
-fn edges_of(case: &Case) -> u64 {
-    match case.call {
-        Call::Check | Call::Unpack => {
-            let mut bits = Bits::of(&case.a);
-            bits.eat(8 + 6 + 8);
-            bits.eat(15)
-        }
-        Call::Pack => case.b.len() as u64 / 3,
-    }
 }

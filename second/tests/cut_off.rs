@@ -2,16 +2,20 @@
 
 mod common;
 
-use common::run_answers;
+use common::{at_once, program, run, whole, Ran};
 use second::case::Case;
 use second::frame::{answer_batch, write_batch};
 use second::make::filters::largest;
 use second::random::Random;
-use second::rides::{A, K, K_COLOURS, K_EDGES};
+use second::rides::{A, K, K_COLOURS, K_EDGES, K_OBSERVATIONS};
 use second::{file, stored};
 
+fn run_answers(batch: &[u8]) -> Ran {
+    run(program("answers"), whole(batch.to_vec()), at_once)
+}
+
 fn agrees(batch: &[u8]) {
-    let ran = run_answers(batch.to_vec());
+    let ran = run_answers(batch);
     assert!(
         ran.stdout == answer_batch(batch),
         "{} bytes of a batch: {} bytes of outcomes instead of {}",
@@ -19,7 +23,7 @@ fn agrees(batch: &[u8]) {
         ran.stdout.len(),
         answer_batch(batch).len()
     );
-    assert!(ran.status.success(), "{}", ran.status);
+    assert!(ran.went_well(), "{}", ran.end());
 }
 
 fn a_few() -> Vec<Case> {
@@ -27,14 +31,15 @@ fn a_few() -> Vec<Case> {
         Case::check(A.to_vec()),
         Case::unpack(K.to_vec(), vec![0xee; 3], vec![0xee; 13]),
         Case::pack(K_COLOURS.to_vec(), K_EDGES.to_vec(), 2, 0, vec![0xee; 19]),
+        Case::trace(K.to_vec(), K_OBSERVATIONS.to_vec(), vec![0xee; 4]),
     ]
 }
 
 #[test]
 fn nothing_at_all() {
-    let ran = run_answers(Vec::new());
+    let ran = run_answers(&[]);
     assert!(ran.stdout.is_empty());
-    assert!(ran.status.success(), "{}", ran.status);
+    assert!(ran.went_well(), "{}", ran.end());
 }
 
 #[test]
@@ -53,7 +58,7 @@ fn a_batch_without_cases() {
 #[test]
 fn fewer_cases_than_announced() {
     let mut batch = write_batch(&a_few());
-    for count in [4, 1 << 32, 1 << 63, u64::MAX] {
+    for count in [5, 1 << 32, 1 << 63, u64::MAX] {
         batch[..8].copy_from_slice(&u64::to_be_bytes(count));
         agrees(&batch);
     }

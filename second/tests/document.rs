@@ -1,7 +1,8 @@
 //! The second program against what document 01 says in numbers.
 
-use second::call::{check, pack, unpack, Answer};
+use second::call::{check, pack, trace, unpack, Answer};
 use second::file::{length, read, write, Edge, Filter};
+use second::program;
 use second::rides::*;
 
 fn accepted(counts: [u64; 4]) -> Answer {
@@ -153,4 +154,126 @@ fn the_largest_file() {
     assert_eq!(answer, accepted([256, 64, 255, 16_384]));
     assert_eq!(colour_room, vec![63; 256]);
     assert_eq!(edge_room, edges);
+}
+
+/// Traces with a room of so many bytes, and looks at each of them afterwards.
+fn traced_in(file: &[u8], observations: &[u8], room: usize, answer: Answer, shown: &[u8]) {
+    let mut colours = vec![0xee; room];
+    assert_eq!(trace(file, observations, &mut colours), answer);
+    assert_eq!(&colours[..shown.len()], shown);
+    assert!(colours[shown.len()..].iter().all(|&byte| byte == 0xee));
+}
+
+fn traced() -> Answer {
+    accepted([0, 0, 0, 0])
+}
+
+fn stopped(i: u64) -> Answer {
+    accepted([1, i, 0, 0])
+}
+
+#[test]
+fn ride_k_traced() {
+    for room in [3, 4, 100] {
+        traced_in(K, &[0, 1], room, stopped(1), &[0, 1]);
+        traced_in(K_REDUCED, &[0, 1], room, traced(), &[0, 1, 0]);
+    }
+    assert_eq!(program::trace(K, &[0, 1]), "0\n1\nstopped 1\n");
+    assert_eq!(program::trace(K_REDUCED, &[0, 1]), "0\n1\n0\ntraced\n");
+}
+
+#[test]
+fn ride_r_traced() {
+    traced_in(K, &[0, 2], 2, refused(12, 0), &[]);
+    traced_in(K, &[0, 2], 3, refused(13, 1), &[]);
+    assert_eq!(program::trace(K, &[0, 2]), "refused 13 1\n");
+}
+
+#[test]
+fn other_rides_through_k() {
+    // There and back by 0, there and back by 1.
+    traced_in(K, &[0, 0, 1, 1], 7, traced(), &[0, 1, 0, 1, 0]);
+    traced_in(K, &[1, 0], 3, stopped(1), &[0, 1]);
+    traced_in(K, &[0, 0, 1, 0], 5, stopped(3), &[0, 1, 0, 1]);
+    // Room is asked for all observations, also where the ride stops before.
+    traced_in(K, &[0, 1, 0, 0], 5, stopped(1), &[0, 1]);
+    traced_in(K, &[0, 1, 0, 0], 4, refused(12, 0), &[]);
+    // All labels are tested, also those behind the stop, and the first one outside is named.
+    traced_in(K, &[0, 1, 0, 2], 5, refused(13, 3), &[]);
+    traced_in(K, &[255, 2], 3, refused(13, 0), &[]);
+}
+
+#[test]
+fn without_observations() {
+    traced_in(K, &[], 1, traced(), &[0]);
+    traced_in(K, &[], 5, traced(), &[0]);
+    traced_in(K, &[], 0, refused(12, 0), &[]);
+    assert_eq!(program::trace(K, &[]), "0\ntraced\n");
+}
+
+#[test]
+fn without_edges() {
+    traced_in(C, &[0], 2, stopped(0), &[0]);
+    traced_in(C, &[1], 2, refused(13, 0), &[]);
+    assert_eq!(program::trace(C, &[0]), "0\nstopped 0\n");
+}
+
+#[test]
+fn a_refused_file_ends_the_trace() {
+    for (file, number) in [(A, 1), (B, 4), (D, 5), (E, 2), (F, 3), (G, 4), (H, 6)] {
+        // Though there is no room, and a label is outside.
+        traced_in(file, &[255], 0, refused(number, 0), &[]);
+        traced_in(file, &[0], 2, refused(number, 0), &[]);
+        let text = format!("refused {number} 0\n");
+        assert_eq!(program::trace(file, &[255]), text);
+    }
+    let second_edge_repeats = write(&Filter {
+        colours: vec![0, 1, 1],
+        m: 2,
+        start: 0,
+        edges: vec![edge(0, 0, 1), edge(0, 0, 2)],
+    });
+    traced_in(&second_edge_repeats, &[0], 2, refused(9, 1), &[]);
+    assert_eq!(program::trace(&second_edge_repeats, &[0]), "refused 9 1\n");
+}
+
+#[test]
+fn as_many_observations_as_a_ride_takes() {
+    let mut shown = vec![0];
+    let mut observations = Vec::new();
+    for i in 1..=65_535 {
+        observations.push(0);
+        shown.push(i as u8 % 2);
+    }
+    traced_in(K, &observations, 65_536, traced(), &shown);
+    traced_in(K, &observations, 65_535, refused(12, 0), &[]);
+    observations[65_534] = 2;
+    traced_in(K, &observations, 65_536, refused(13, 65_534), &[]);
+    assert_eq!(program::trace(K, &observations), "refused 13 65534\n");
+    observations[65_534] = 0;
+    observations.push(0);
+    traced_in(K, &observations, 70_000, refused(12, 0), &[]);
+    // 12 comes before 13, and before any stop.
+    observations[0] = 2;
+    traced_in(K, &observations, 70_000, refused(12, 0), &[]);
+    observations[..2].copy_from_slice(&[0, 1]);
+    traced_in(K, &observations, 70_000, refused(12, 0), &[]);
+    assert_eq!(program::trace(K, &observations), "refused 12 0\n");
+}
+
+#[test]
+fn programs_judge_what_they_have_read() {
+    // 60,000 bytes count as 45,254, but 2 and 3 still come before 5.
+    for (file, text) in [
+        (C, "refused 5 0\n"),
+        (E, "refused 2 0\n"),
+        (F, "refused 3 0\n"),
+    ] {
+        let mut file = file.to_vec();
+        file.resize(60_000, 0);
+        assert_eq!(program::trace(&file, &[]), text);
+    }
+    // 70,000 observations count as 65,536, which are too many whatever they are.
+    assert_eq!(program::trace(K, &[0; 70_000]), "refused 12 0\n");
+    assert_eq!(program::trace(K, &[9; 70_000]), "refused 12 0\n");
 }

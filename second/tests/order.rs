@@ -7,7 +7,8 @@ use second::file::{length, read, write};
 use second::make::damage::{one_faulty_edge, two_faulty_edges, Damage};
 use second::make::draft::Draft;
 use second::make::filters::shapes;
-use second::make::{files, lists};
+use second::make::rooms::Room;
+use second::make::{files, lists, traces};
 use second::random::Random;
 use std::collections::BTreeSet;
 
@@ -134,6 +135,106 @@ fn lists_outside_the_form_are_14_and_a_start_outside_is_2() {
         let too_many = numbers(lists::one_edge_too_many(random));
         assert!(too_many.iter().all(|&number| number == 3));
     });
+}
+
+/// The answer of a trace: number, place, whether it was stopped, where.
+fn told(case: &Case) -> [u64; 4] {
+    let answer = case.outcome().answer;
+    assert_eq!(answer.counts[2..], [0, 0]);
+    let number = u64::from(answer.number);
+    [number, answer.place, answer.counts[0], answer.counts[1]]
+}
+
+const NO_ROOM: [u64; 4] = [12, 0, 0, 0];
+const TRACED: [u64; 4] = [0, 0, 0, 0];
+
+fn enough(nth: usize) -> bool {
+    [Room::Exact, Room::Longer].contains(&Room::ALL[nth % Room::ALL.len()])
+}
+
+#[test]
+fn full_rides_are_traced_where_the_room_is_enough() {
+    for_each_seed(|random| {
+        let rides = [traces::full_rides(random), traces::no_observations(random)];
+        for (i, case) in rides.concat().iter().enumerate() {
+            assert_eq!(told(case), if enough(i) { TRACED } else { NO_ROOM });
+        }
+        let long = traces::full_rides(random)
+            .iter()
+            .filter(|case| case.b.len() >= 3)
+            .count();
+        assert!(long >= 40);
+    });
+}
+
+#[test]
+fn stopped_rides_stop_at_the_first_a_middle_and_the_last_observation() {
+    for_each_seed(|random| {
+        for (i, case) in traces::stopped_rides(random).iter().enumerate() {
+            let [number, place, stopped, at] = told(case);
+            if enough(i) {
+                let last = case.b.len() as u64 - 1;
+                assert_eq!([number, place, stopped], [0, 0, 1]);
+                assert!(match i / Room::ALL.len() {
+                    0 => at == 0,
+                    1 => 0 < at && at < last,
+                    _ => at == last,
+                });
+            } else {
+                assert_eq!([number, place, stopped, at], NO_ROOM);
+            }
+        }
+    });
+}
+
+#[test]
+fn labels_outside_are_13_at_the_first_a_middle_and_the_last_observation() {
+    for_each_seed(|random| {
+        let cases = traces::labels_outside(random);
+        let third = cases.len() / 3;
+        for (i, case) in cases.iter().enumerate() {
+            let [number, place, rest @ ..] = told(case);
+            let last = case.b.len() as u64 - 1;
+            assert_eq!((number, rest), (13, [0, 0]));
+            assert!(match i / third {
+                0 => place == 0,
+                1 => 0 < place && place < last,
+                _ => place == last,
+            });
+        }
+    });
+}
+
+#[test]
+fn of_two_faults_of_a_trace_the_room_decides() {
+    for_each_seed(|random| {
+        for four in traces::two_faults(random).chunks(4) {
+            let numbers: Vec<u64> = four.iter().map(|case| told(case)[0]).collect();
+            assert_eq!(numbers, [12, 12, 13, 12]);
+            // The later label outside is not named.
+            assert!(told(&four[2])[1] < four[2].b.len() as u64 - 1);
+        }
+    });
+}
+
+#[test]
+fn a_faulty_file_decides_before_the_trace() {
+    for_each_seed(|random| {
+        for (i, case) in traces::through_faulty_files(random).iter().enumerate() {
+            assert_eq!(told(case)[0], i as u64 / 4 + 1);
+        }
+    });
+}
+
+#[test]
+fn many_observations_are_12_from_65_536_on() {
+    for seed in 0..3 {
+        for case in traces::many_observations(&mut Random::new(seed)) {
+            let enough_room = case.c.len() > case.b.len();
+            let takes = case.b.len() <= 65_535 && enough_room;
+            assert_eq!(told(&case) == NO_ROOM, !takes);
+        }
+    }
 }
 
 #[test]

@@ -5,7 +5,9 @@
 // Out, each case: 1 byte, the refusal's number or 0; 8 bytes, its place; four counts of 8 bytes; then b and c as the call left them.
 //
 // 1, check: a is the file. 2, unpack: a is the file, b and c are the rooms for colours and edges. 3, pack: a and b are the colours
-// and the edges, c is the room, the two numbers are m and the start. A case that is cut off, or of another call, ends the batch.
+// and the edges, c is the room, the two numbers are m and the start. 4, trace: a is the file, b the observations, c the room for
+// colours; its counts are 0 and 0 where all is traced, 1 and i where it stops at i. A case that is cut off, or of another call, ends
+// the batch.
 use file::Checked;
 use file::Packed;
 use file::Reading;
@@ -13,6 +15,7 @@ use file::Refusal;
 use file::Unpacked;
 use libc::STDIN_FILENO;
 use libc::STDOUT_FILENO;
+use tracing::Traced;
 ghost use mathlib.Core.Path.{_≡_};
 ghost use Prim.Native.Nat.{_≤_, _<_};
 ghost use lib.ListN.{length};
@@ -67,6 +70,22 @@ fn packed(answer: Packed) -> Answer {
             counts: [n as u64, 0, 0, 0],
         },
         Packed::Refused(why) => of_refusal(why),
+    }
+}
+
+fn traced(answer: Traced) -> Answer {
+    match answer {
+        Traced::All => Answer {
+            number: 0,
+            place: 0,
+            counts: [0; 4],
+        },
+        Traced::Stopped(i) => Answer {
+            number: 0,
+            place: 0,
+            counts: [1, i as u64, 0, 0],
+        },
+        Traced::Refused(why) => of_refusal(why),
     }
 }
 
@@ -133,6 +152,10 @@ fn make_call(call: u64, first: u64, second: u64, a: &[u8], b: &mut [u8], c: &mut
     }
     if call == 3 {
         write_answer(packed(file::pack(a, b, first as usize, second as usize, c)));
+        return write_strings(b, c);
+    }
+    if call == 4 {
+        write_answer(traced(tracing::trace(a, b, c)));
         return write_strings(b, c);
     }
     false

@@ -2,7 +2,7 @@
 -- Document 01 speaks of the profile `large`.
 -- Assumes nothing.
 use Prim.Native.Nat.{ℕ, suc, _*_, _%_, _^_}
-use mathlib.Core.Bool.{Bool, true, false, not, _&&_, _||_}
+use mathlib.Core.Bool.{Bool, true, not, _&&_, _||_}
 use mathlib.Core.Option.{Option, none, some}
 use mathlib.Core.List.{List, [], _∷_, _++_}
 use lib.Dec.{eqb, leb, ltb}

@@ -1,6 +1,5 @@
 // One edge, read from a file.
 use crate::Profile;
-
 ghost use mathlib.Core.Path.{_≡_};
 ghost use Prim.Native.Nat.{_<_};
 ghost use Rattle.file.specs.Contents.{edgeAt};

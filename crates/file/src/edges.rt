@@ -1,8 +1,8 @@
 // Edges tested one behind another, and runs of them read and written.
-use crate::edge::Edge;
 use crate::Kind;
 use crate::Profile;
 use crate::Refusal;
+use crate::edge::Edge;
 ghost use mathlib.Core.Path.{_≡_};
 ghost use mathlib.Core.List.{_++_};
 ghost use mathlib.Core.Option.{none};

@@ -3,7 +3,6 @@ use file::Profile;
 use file::Reading;
 use file::edge;
 use file::layout;
-
 ghost use mathlib.Core.Path.{_≡_};
 ghost use mathlib.Core.Bool.{true};
 ghost use Prim.Native.Nat.{_+_, _*_, _<_, _≤_};

@@ -1,8 +1,9 @@
 //! `cases stdin` prints the batch that is stored beside `answers`, `cases stdout` its outcomes, and `cases answer` the
-//! outcomes of the batch on standard input, as a saved one.
+//! outcomes of the batch on standard input, as a saved one. `cases trace FILE` prints what `trace` prints for that file
+//! and the observations on standard input.
 
 use second::frame::{answer_batch, write_batch};
-use second::stored;
+use second::{program, stored};
 use std::io::{self, Read, Write};
 use std::process::ExitCode;
 
@@ -11,15 +12,17 @@ fn main() -> ExitCode {
     let bytes = match what.as_str() {
         "stdin" => Ok(write_batch(&stored::cases())),
         "stdout" => Ok(answer_batch(&write_batch(&stored::cases()))),
-        "answer" => {
-            let mut batch = Vec::new();
-            io::stdin()
-                .lock()
-                .read_to_end(&mut batch)
-                .map(|_| answer_batch(&batch))
+        "answer" => input().map(|batch| answer_batch(&batch)),
+        "trace" => {
+            let name = std::env::args_os().nth(2).unwrap_or_default();
+            let file = std::fs::read(name).unwrap_or_default();
+            input().map(|observations| program::trace(&file, &observations).into_bytes())
         }
         _ => {
-            eprintln!("usage: cases stdin > FILE | cases stdout > FILE | cases answer < FILE");
+            eprintln!(
+                "usage: cases stdin > BATCH | cases stdout > OUTCOMES | cases answer < BATCH\n\
+                 \x20      | cases trace FILE < OBSERVATIONS"
+            );
             return ExitCode::from(2);
         }
     };
@@ -30,4 +33,10 @@ fn main() -> ExitCode {
             ExitCode::FAILURE
         }
     }
+}
+
+fn input() -> io::Result<Vec<u8>> {
+    let mut bytes = Vec::new();
+    io::stdin().lock().read_to_end(&mut bytes)?;
+    Ok(bytes)
 }

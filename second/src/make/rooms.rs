@@ -2,6 +2,7 @@
 
 use crate::bits::Bits;
 use crate::case::Case;
+use crate::make::traces;
 use crate::random::Random;
 
 #[derive(Clone, Copy, Debug, PartialEq, Eq)]
@@ -40,14 +41,15 @@ pub fn any(random: &mut Random) -> Room {
     ])
 }
 
-/// The file checked, and unpacked into rooms of some kind.
+/// The file checked, unpacked into rooms of some kind, and traced with some observations.
 pub fn cases_of_file(random: &mut Random, file: Vec<u8>) -> Vec<Case> {
     let (colours, edges) = wanted_by(&file);
     let colour_room = any(random).found(colours, random);
     let edge_room = any(random).found(edges, random);
     vec![
         Case::check(file.clone()),
-        Case::unpack(file, colour_room, edge_room),
+        Case::unpack(file.clone(), colour_room, edge_room),
+        traces::of_file(random, file),
     ]
 }
 

@@ -1,7 +1,7 @@
 -- `table::table_of` meets its contract: an accepted file's edges ascend. Assumes nothing.
-use mathlib.Core.Path.{_≡_, ap, ap₂, sym, _∙_}
+use mathlib.Core.Path.{_≡_, ap, ap₂, _∙_}
 use mathlib.Core.Option.{none}
-use Prim.Native.Nat.{ℕ, _≤_}
+use Prim.Native.Nat.{_≤_}
 use native.Mathlib.Omega.{arith}
 use borrow.Author.Needs.{needs}
 use denote.Ref.{now}
@@ -10,7 +10,7 @@ use Rattle.meaning.specs.Filter.{ascending}
 use Rattle.meaning.specs.Trace.{target, edge}
 use Rattle.file.specs.declared.Profile.{Profile}
 use Rattle.file.specs.Layout.{large, edgesBegin}
-use Rattle.file.specs.Contents.{statesIn, labelsIn, countIn, edgesFrom, edgesIn, filterIn}
+use Rattle.file.specs.Contents.{statesIn, labelsIn, edgesFrom, edgesIn, filterIn}
 use Rattle.file.proofs.Bounds.{large-usable, states-high, count-high}
 use Rattle.file.proofs.Tests.{fault-free}
 use Rattle.file.proofs.Calls.{ReadIs, reading-is}

@@ -1,0 +1,83 @@
+-- `lines::put_lines` meets its contract. The invariant: the first numbers' lines stand at the room's beginning. Assumes nothing.
+use mathlib.Core.Path.{_≡_, refl, ap, sym, _∙_}
+use mathlib.Core.List.{List, _++_}
+use Prim.Native.Nat.{ℕ, _+_, _*_, _-_, _≤_}
+use native.Mathlib.Nat.{le-antisymm, zero-add}
+use native.Mathlib.Numerals.{add-one}
+use native.Mathlib.Omega.{arith}
+use denote.Ref.{now}
+use lib.ListN.{length, getD, take}
+use lib.Seq.{take-suc, take-length}
+use Rattle.lines.specs.Text.{decimal, newline, numberLines, wrote}
+use Rattle.lines.proofs.Laws.{both, lines-snoc}
+use Rattle.lines.proofs.put_lines.Statement.{statement}
+use Rattle.lines.proofs.put_lines.Tie as tie
+
+abbrev Inv-loop : tie.InvT-loop
+Inv-loop room₀ numbers at₀ i₀ room at i =
+    (i ≤ length numbers) × (at ≤ 4 * i) × (length room ≡ length room₀) × (room ≡ wrote room₀ 0 (numberLines (take i numbers))) × (at ≡ 0 + length (numberLines (take i numbers)))
+
+abbrev μ-loop : tie.MeasureT-loop
+μ-loop room₀ numbers at₀ i₀ room at i = length numbers - i
+
+loop-holds : tie.Need-loop-holds Inv-loop μ-loop
+unfolding numberLines
+loop-holds c = (omega arith, omega arith, refl, refl, omega arith)
+
+shared-slice-read-put-line : tie.Need-shared-slice-read-put-line Inv-loop μ-loop
+shared-slice-read-put-line c = omega arith
+
+put-line-requires : tie.Need-put-line-requires Inv-loop μ-loop
+put-line-requires c κs = omega arith
+
+add-i : tie.Need-add-i Inv-loop μ-loop
+add-i c = omega arith
+
+loop-less : tie.Need-loop-less Inv-loop μ-loop
+loop-less c = omega arith
+
+loop-again : tie.Need-loop-again Inv-loop μ-loop
+loop-again c =
+    let put = c .before .before in
+    let loop = put .before .before .before .before .loop in
+    let a = put .before .before .before .before .before .before .before .args in
+    let ns = now (a .numbers) in
+    let n = getD ns (loop .i) 0 in
+    let more : numberLines (take (loop .i) ns) ++ (decimal n ++ newline) ≡ numberLines (take (loop .i + 1) ns) =
+    sym (ap (λ (k : ℕ). numberLines (take k ns)) (add-one (loop .i)) ∙ ap numberLines (take-suc ns (loop .i) 0 (put .before .before .before .loop-test .taken)) ∙ lines-snoc (take (loop .i) ns) n) in
+    let done =
+    both (now (a .room)) (loop .room) (put .put-line .last .0) 0 (loop .at) (put .put-line .result) (numberLines (take (loop .i) ns)) (decimal n ++ newline) (omega arith) (loop .inv .3)
+    (loop .inv .4) (put .put-line .ensures .0) (put .put-line .ensures .1) in (
+      omega arith,
+      omega (arith, put .put-line .ensures .2),
+      put .put-line .kept .0 ∙ loop .inv .2,
+      done .0 ∙ ap (wrote (now (a .room)) 0) more,
+      done .1 ∙ ap (λ (l : List ℕ). 0 + length l) more,
+    )
+
+same-length : tie.Need-same-length Inv-loop μ-loop
+same-length c = c .before .loop .inv .2
+
+returns : tie.Need-returns Inv-loop μ-loop
+returns c =
+    let loop = c .before .loop in
+    let a = c .before .before .before .before .args in
+    let ns = now (a .numbers) in
+    let all : loop .i ≡ length ns = le-antisymm (loop .inv .0) (c .loop-test .left) in
+    let is : take (loop .i) ns ≡ ns = ap (λ (k : ℕ). take k ns) all ∙ take-length ns in
+    (loop .inv .3 ∙ ap (λ (l : List ℕ). wrote (now (a .room)) 0 (numberLines l)) is, loop .inv .4 ∙ zero-add _ ∙ ap (λ (l : List ℕ). length (numberLines l)) is, omega (arith, all, loop .inv .1))
+
+pub put-lines-spec : {M : Type 1} → statement M
+put-lines-spec =
+    tie.close
+    (tie.spec
+    Inv-loop
+    μ-loop
+    loop-holds
+    shared-slice-read-put-line
+    put-line-requires
+    add-i
+    loop-less
+    loop-again
+    same-length
+    returns)

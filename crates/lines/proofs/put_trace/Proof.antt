@@ -1,0 +1,37 @@
+-- `lines::put_trace` meets its contract. Assumes nothing.
+use mathlib.Core.Path.{sym, _∙_}
+use mathlib.Core.List.{_++_}
+use Prim.Native.Nat.{_+_}
+use native.Mathlib.Nat.{zero-add}
+use native.Mathlib.Omega.{arith}
+use borrow.Author.Needs.{needs}
+use denote.Ref.{now}
+use lib.ListN.{length}
+use Rattle.lines.specs.Text.{numberLines, lastLine}
+use Rattle.lines.proofs.Laws.{both}
+use Rattle.lines.proofs.put_trace.Statement.{statement}
+use Rattle.lines.proofs.put_trace.Tie as tie
+
+put-lines-requires : tie.Need-put-lines-requires
+put-lines-requires c κs = search needs
+
+put-last-requires : tie.Need-put-last-requires
+put-last-requires c κs = search needs
+
+same-length : tie.Need-same-length
+same-length c = search needs
+
+returns : tie.Need-returns
+returns c =
+    let last = c .before .before in
+    let lines = last .before .before .before .before in
+    let start = lines .before .before .before .before in
+    let a = start .args in
+    let colours = numberLines (now (a .colours)) in
+    let done =
+    both (now (a .room)) (lines .put-lines .last .0) (last .put-last .last .0) 0 (lines .put-lines .result) (last .put-last .result) colours (lastLine (a .answer)) (omega arith)
+    (lines .put-lines .ensures .0) (lines .put-lines .ensures .1 ∙ sym (zero-add (length colours))) (last .put-last .ensures .0) (last .put-last .ensures .1) in
+    (done .0, done .1 ∙ zero-add (length (colours ++ lastLine (a .answer))))
+
+pub put-trace-spec : {M : Type 1} → statement M
+put-trace-spec = tie.close (tie.spec put-lines-requires put-last-requires same-length returns)

@@ -1,0 +1,57 @@
+-- The text that the programs print (document 01, "Three programs"): fields parted by one space, decimal numbers, each line ended by
+-- one newline byte. Bytes are ASCII.
+-- Assumes nothing.
+use Prim.Native.Nat.{ℕ, zero, suc, _+_, _/_, _%_}
+use mathlib.Core.List.{List, [], _∷_, _++_}
+use lib.Dec.{ltb}
+use lib.ListN.{length, take, drop}
+use Rattle.meaning.specs.Pick.{pick}
+use Rattle.file.specs.Answers.{numberOf}
+use Rattle.tracing.specs.declared.Traced.{Traced}
+use Rattle.tracing.specs.declared.Traced.the-variants as traced
+
+-- A number of at most k digits, without leading zeros.
+unfoldable pub digitsOf : ℕ → ℕ → List ℕ
+digitsOf zero n = []
+digitsOf (suc k) n = pick (ltb n 10) ((48 + n) ∷ []) (digitsOf k (n / 10) ++ ((48 + n % 10) ∷ []))
+
+-- A number of 64 bits has at most 20 digits.
+unfoldable pub decimal : ℕ → List ℕ
+decimal n = digitsOf 20 n
+
+abbrev pub space : List ℕ
+space = 32 ∷ []
+
+abbrev pub newline : List ℕ
+newline = 10 ∷ []
+
+-- "refused "
+abbrev pub refusedWord : List ℕ
+refusedWord = 114 ∷ 101 ∷ 102 ∷ 117 ∷ 115 ∷ 101 ∷ 100 ∷ 32 ∷ []
+
+-- "traced" and a newline
+abbrev pub tracedLine : List ℕ
+tracedLine = 116 ∷ 114 ∷ 97 ∷ 99 ∷ 101 ∷ 100 ∷ 10 ∷ []
+
+-- "stopped "
+abbrev pub stoppedWord : List ℕ
+stoppedWord = 115 ∷ 116 ∷ 111 ∷ 112 ∷ 112 ∷ 101 ∷ 100 ∷ 32 ∷ []
+
+-- `refused`, the number and the place on one line.
+unfoldable pub refusalLine : ℕ → ℕ → List ℕ
+refusalLine number place = refusedWord ++ (decimal number ++ (space ++ (decimal place ++ newline)))
+
+-- One number a line.
+unfoldable pub numberLines : List ℕ → List ℕ
+numberLines [] = []
+numberLines (n ∷ ns) = decimal n ++ (newline ++ numberLines ns)
+
+-- A line with `traced` alone, or with `stopped` and the index; or the refusal line.
+unfoldable pub lastLine : Traced → List ℕ
+lastLine traced.All = tracedLine
+lastLine (traced.Stopped i) = stoppedWord ++ (decimal i ++ newline)
+lastLine (traced.Refused r) = refusalLine (numberOf (r .kind)) (r .place)
+
+-- A text written into a room from a place on: what stands before and behind it stays.
+abbrev pub wrote : List ℕ → ℕ → List ℕ → List ℕ
+wrote room at text = take at room ++ text ++ drop (at + length text) room

@@ -1,0 +1,46 @@
+-- The promise of trace in each of its cases.
+-- Assumes nothing.
+use mathlib.Core.Path.{_≡_, refl, sym, _∙_}
+use mathlib.Core.Bool.{true, false, _||_}
+use mathlib.Core.List.{List}
+use mathlib.Core.Option.{Option, none, some}
+use Prim.Native.Nat.{ℕ, _+_}
+use lib.Dec.{ltb}
+use lib.ListN.{length}
+use Rattle.meaning.specs.Trace.{shown, stops}
+use Rattle.file.specs.declared.Profile.{Profile}
+use Rattle.file.specs.declared.Kind.the-variants.{Room, Observation}
+use Rattle.file.specs.declared.Refusal.{Refusal}
+use Rattle.file.specs.Contents.{labelsIn, filterIn}
+use Rattle.file.specs.Answers.{accepted, refusalOutcome}
+use Rattle.file.specs.Refusals.{checkOf, laid, roomAfter}
+use Rattle.tracing.specs.declared.Traced.{Traced}
+use Rattle.tracing.specs.declared.Traced.the-variants as traced
+use Rattle.tracing.specs.Answers.{rideOutcome, tracedOutcome}
+use Rattle.tracing.specs.Tracing.{firstOutside, traceOf}
+use Rattle.tracing.specs.Promise.{TracePromise}
+
+after-ride : (o : Option ℕ) (bytes room : List ℕ) → roomAfter (rideOutcome o) bytes room ≡ laid bytes room
+after-ride none bytes room = refl
+after-ride (some i) bytes room = refl
+
+module _ (P : Profile) (s ys room : List ℕ) where
+  pub trace-refused : (why : Refusal) (r : Traced) → checkOf P s ≡ refusalOutcome why → tracedOutcome r ≡ refusalOutcome why → TracePromise P s ys room r room
+  unfolding traceOf
+  trace-refused why r h e = record { answer = e ∙ rw h; colours-after = rw h }
+
+  module _ (vs : List ℕ) (h : checkOf P s ≡ accepted vs) where
+    pub trace-short : (ltb 65535 (length ys) || ltb (length room) (length ys + 1)) ≡ true → TracePromise P s ys room (traced.Refused (record { kind = Room; place = 0 })) room
+    unfolding traceOf
+    trace-short t = record { answer = rw (h, t); colours-after = rw (h, t) }
+
+    module _ (t : (ltb 65535 (length ys) || ltb (length room) (length ys + 1)) ≡ false) where
+      pub trace-label : (i : ℕ) → firstOutside (labelsIn P s) ys ≡ some i → TracePromise P s ys room (traced.Refused (record { kind = Observation; place = i })) room
+      unfolding traceOf
+      trace-label i o = record { answer = rw (h, t, o); colours-after = rw (h, t, o) }
+
+      pub trace-ridden : (r : Traced) (room′ : List ℕ) → firstOutside (labelsIn P s) ys ≡ none → tracedOutcome r ≡ rideOutcome (stops (filterIn P s) ys) →
+          room′ ≡ laid (shown (filterIn P s) ys) room → TracePromise P s ys room r room′
+      unfolding traceOf
+      trace-ridden r room′ o e w =
+          record { answer = e ∙ rw (h, t, o); colours-after = w ∙ rw (h, t, o) (sym (after-ride (stops (filterIn P s) ys) (shown (filterIn P s) ys) room)) }

@@ -1,0 +1,192 @@
+-- Laws of the ride, one observation further, and of the labels' test.
+-- Assumes nothing.
+use mathlib.Core.Path.{_≡_, refl, sym, ap, ap₂, _∙_, fun-ext}
+use mathlib.Core.Bool.{Bool, true, false, _&&_}
+use mathlib.Core.List.{List, [], _∷_, _++_, append-assoc}
+use mathlib.Core.Option.{Option, none, some}
+use Prim.Native.Nat.{ℕ, zero, suc, _+_, _*_, _-_, _≤_, _<_}
+use native.Mathlib.Decide.{decLt}
+use native.Mathlib.Numerals.{add-one}
+use native.Mathlib.Omega.{arith}
+use lib.Dec.{leb, ltb}
+use lib.ListN.{length, getD, set, take, drop, replicate, length-append, drop-of-length-le, List·getD-append, List·getD-eq-default}
+use lib.Seq.{drop-cons, take-at, getD-drop, getD-append-add}
+use borrow.Author.Tests.{le-leb, lt-leb, leb-false, lt-ltb, ltb-true}
+use Rattle.bits.proofs.Runs.{store-more}
+use Rattle.meaning.specs.Pick.{pick}
+use Rattle.meaning.specs.Trace.{ridden, later, halted}
+use Rattle.meaning.specs.TraceLaws.{clash}
+use Rattle.file.specs.Refusals.{laid}
+use Rattle.table.specs.Table.{entry, look}
+use Rattle.tracing.specs.Answers.{onto, stop, courseOf}
+use Rattle.tracing.specs.Tracing.{firstOutside}
+
+-- ---- an index further on
+
+-- a place counted from i
+abbrev pub from : ℕ → Option ℕ → Option ℕ
+from i none = none
+from i (some k) = some (i + k)
+
+from-later : (i : ℕ) (o : Option ℕ) → from i (later o) ≡ from (i + 1) o
+from-later i none = refl
+from-later i (some k) = ap some (omega arith)
+
+from-zero : (o : Option ℕ) → o ≡ from 0 o
+from-zero none = refl
+from-zero (some k) = ap some (omega arith)
+
+-- ---- the labels' test
+
+pub outside-start : (m : ℕ) (ys : List ℕ) → firstOutside m ys ≡ from 0 (firstOutside m (drop 0 ys))
+outside-start m ys = from-zero (firstOutside m ys)
+
+pub outside-here : (m : ℕ) (ys : List ℕ) (i : ℕ) → i < length ys → m ≤ getD ys i 0 → from i (firstOutside m (drop i ys)) ≡ some i
+unfolding firstOutside
+outside-here m ys i l h = rw (drop-cons ys i 0 l, le-leb _ _ h) (ap some (omega arith))
+
+pub outside-next : (m : ℕ) (ys : List ℕ) (i : ℕ) → i < length ys → getD ys i 0 < m → from i (firstOutside m (drop i ys)) ≡ from (i + 1) (firstOutside m (drop (i + 1) ys))
+unfolding firstOutside
+outside-next m ys i l h = rw (drop-cons ys i 0 l, lt-leb _ _ h, add-one i) (from-later i (firstOutside m (drop (suc i) ys)) ∙ rw (add-one i))
+
+pub outside-end : (m : ℕ) (ys : List ℕ) (i : ℕ) → length ys ≤ i → from i (firstOutside m (drop i ys)) ≡ none
+unfolding firstOutside
+outside-end m ys i l = rw (drop-of-length-le ys {i = i} l)
+
+-- observations that pass are all below m
+pub all-inside : (m : ℕ) (ys : List ℕ) → 0 < m → firstOutside m ys ≡ none → (i : ℕ) → getD ys i 0 < m
+unfolding firstOutside
+all-inside m [] z h i = z
+all-inside m (y ∷ ys) z h i = go (leb m y) refl h i (all-inside m ys z)
+  where
+    none-later : (o : Option ℕ) → later o ≡ none → o ≡ none
+    none-later none k = refl
+    none-later (some j) k = clash cc
+
+    go : (b : Bool) → leb m y ≡ b → pick b (some 0) (later (firstOutside m ys)) ≡ none → (i : ℕ) → (firstOutside m ys ≡ none → (i : ℕ) → getD ys i 0 < m) → getD (y ∷ ys) i 0 < m
+    go true e k i r = clash cc
+    go false e k zero r = leb-false m y e
+    go false e k (suc i) r = r (none-later (firstOutside m ys) k) i
+
+-- ---- a step
+
+pub entry-target : (v : ℕ) → v < 256 → entry v ≡ some v
+entry-target v h = rw (lt-ltb v 256 h)
+
+pub course-onto : (o : Option ℕ) (taken s k : ℕ) → onto s k ≡ courseOf o taken → (o ≡ some s) × (k ≡ taken + 1)
+course-onto none taken s k h = clash cc
+course-onto (some t) taken s k h = (ap some (cc h), cc h)
+
+pub course-stop : (o : Option ℕ) (taken k : ℕ) → stop k ≡ courseOf o taken → (o ≡ none) × (k ≡ taken)
+course-stop none taken k h = (refl, cc h)
+course-stop (some t) taken k h = clash cc
+
+-- what is looked up is a state of the table
+pub look-lt : (T : List ℕ) (s y t : ℕ) → look T s y ≡ some t → t < 256
+unfolding look
+look-lt T s y t h = go (ltb s 256) (ltb y 64) (ltb (getD T (s * 64 + y) 0) 256) refl h
+  where
+    go : (a b c : Bool) → ltb (getD T (s * 64 + y) 0) 256 ≡ c → pick (a && b) (pick c (some (getD T (s * 64 + y) 0)) none) none ≡ some t → t < 256
+    go true true true e k = let z : getD T (s * 64 + y) 0 ≡ t = cc in omega (arith, ltb-true (getD T (s * 64 + y) 0) 256 e)
+    go true true false e k = clash cc
+    go true false c e k = clash cc
+    go false b c e k = clash cc
+
+-- ---- the ride
+
+module _ (next : ℕ → ℕ → Option ℕ) (hue : ℕ → ℕ) where
+  ridden-on : (s y t : ℕ) (ys : List ℕ) → next s y ≡ some t → ridden next hue s (y ∷ ys) ≡ hue s ∷ ridden next hue t ys
+  unfolding ridden
+  ridden-on s y t ys h = rw h
+
+  ridden-stop : (s y : ℕ) (ys : List ℕ) → next s y ≡ none → ridden next hue s (y ∷ ys) ≡ hue s ∷ []
+  unfolding ridden
+  ridden-stop s y ys h = rw h
+
+  halted-on : (s y t : ℕ) (ys : List ℕ) → next s y ≡ some t → halted next s (y ∷ ys) ≡ later (halted next t ys)
+  unfolding halted
+  halted-on s y t ys h = rw (h, halted)
+
+  halted-stop : (s y : ℕ) (ys : List ℕ) → next s y ≡ none → halted next s (y ∷ ys) ≡ some 0
+  unfolding halted
+  halted-stop s y ys h = rw (h, halted)
+
+  module _ (start : ℕ) (ys room : List ℕ) where
+    abbrev all : List ℕ
+    all = ridden next hue start ys
+
+    -- A ride in progress: i observations are taken, the ride is in state s, and the room has the colours of the states before.
+    pub record Riding (now : List ℕ) (i s : ℕ) : Type 0 where
+      pub shows : all ≡ take i all ++ ridden next hue s (drop i ys)
+      pub counts : length (take i all) ≡ i
+      pub holds : now ≡ take i all ++ drop i room
+      pub halts : halted next start ys ≡ from i (halted next s (drop i ys))
+
+    pub riding-begins : Riding room 0 start
+    riding-begins = record { shows = refl; counts = refl; holds = refl; halts = from-zero (halted next start ys) }
+
+    module _ (now : List ℕ) (i s : ℕ) (r : Riding now i s) where
+      -- the colour of the state that the ride is in, behind those before it
+      longer : length (take i all ++ (hue s ∷ [])) ≡ i + 1
+      longer = length-append (take i all) (hue s ∷ []) ∙ ap (λ (k : ℕ). k + 1) (r .counts)
+
+      put : i < length room → set now i (hue s) ≡ (take i all ++ (hue s ∷ [])) ++ drop (i + 1) room
+      put l = ap (λ (w : List ℕ). set w i (hue s)) (r .holds) ∙ store-more (take i all) room i (hue s) (r .counts) l
+
+      pub riding-on : (t : ℕ) → i < length ys → i < length room → next s (getD ys i 0) ≡ some t → Riding (set now i (hue s)) (i + 1) t
+      riding-on t l m h =
+          let rest = ridden next hue t (drop (i + 1) ys) in
+          let cons : drop i ys ≡ getD ys i 0 ∷ drop (i + 1) ys = drop-cons ys i 0 l ∙ rw (add-one i) in
+          let parts : all ≡ (take i all ++ (hue s ∷ [])) ++ rest =
+          r .shows ∙ ap (λ (w : List ℕ). take i all ++ w) (ap (ridden next hue s) cons ∙ ridden-on s (getD ys i 0) t (drop (i + 1) ys) h)
+          ∙ sym (append-assoc (take i all) (hue s ∷ []) rest) in
+          let front : take (i + 1) all ≡ take i all ++ (hue s ∷ []) = ap (take (i + 1)) parts ∙ take-at (take i all ++ (hue s ∷ [])) rest (i + 1) longer in
+          record {
+            shows = parts ∙ ap (λ (w : List ℕ). w ++ rest) (sym front);
+            counts = ap length front ∙ longer;
+            holds = put m ∙ ap (λ (w : List ℕ). w ++ drop (i + 1) room) (sym front);
+            halts =
+                r .halts ∙ ap (λ (o : List ℕ). from i (halted next s o)) cons ∙ ap (from i) (halted-on s (getD ys i 0) t (drop (i + 1) ys) h)
+                ∙ from-later i (halted next t (drop (i + 1) ys));
+          }
+
+      ended : i < length room → all ≡ take i all ++ (hue s ∷ []) → set now i (hue s) ≡ laid all room
+      ended l h = put l ∙ ap₂ (λ (w : List ℕ) (k : ℕ). w ++ drop k room) (sym h) (sym (ap length h ∙ longer))
+
+      -- an observation without an edge
+      pub riding-stops : i < length ys → i < length room → next s (getD ys i 0) ≡ none → (set now i (hue s) ≡ laid all room) × (halted next start ys ≡ some i)
+      riding-stops l m h =
+          let cons : drop i ys ≡ getD ys i 0 ∷ drop (i + 1) ys = drop-cons ys i 0 l ∙ rw (add-one i) in (
+            ended m (r .shows ∙ ap (λ (w : List ℕ). take i all ++ w) (ap (ridden next hue s) cons ∙ ridden-stop s (getD ys i 0) (drop (i + 1) ys) h)),
+            r .halts ∙ ap (λ (o : List ℕ). from i (halted next s o)) cons ∙ ap (from i) (halted-stop s (getD ys i 0) (drop (i + 1) ys) h) ∙ ap some (omega arith),
+          )
+
+      -- no observation is left
+      pub riding-ends : length ys ≤ i → i < length room → (set now i (hue s) ≡ laid all room) × (halted next start ys ≡ none)
+      unfolding ridden halted
+      riding-ends l m =
+          let nil : drop i ys ≡ [] = drop-of-length-le ys {i = i} l in (
+            ended m (r .shows ∙ ap (λ (o : List ℕ). take i all ++ ridden next hue s o) nil),
+            r .halts ∙ ap (λ (o : List ℕ). from i (halted next s o)) nil,
+          )
+
+-- ---- colours
+
+-- zeros behind a list are what reading past its end gives
+pub padded : (xs : List ℕ) (n k : ℕ) → _≡_ {A = ℕ → ℕ} (λ s. getD (xs ++ drop n (replicate k 0)) s 0) (λ s. getD xs s 0)
+padded xs n k = fun-ext λ s. go s (decLt s (length xs))
+  where
+    zeros : (k n s : ℕ) → _≡_ {A = ℕ} (getD (drop n (replicate k 0)) s 0) 0
+    zeros k n s = getD-drop n (replicate k 0) s 0 ∙ zero-at k (n + s)
+      where
+        zero-at : (k j : ℕ) → _≡_ {A = ℕ} (getD (replicate k 0) j 0) 0
+        zero-at zero j = refl
+        zero-at (suc k) zero = refl
+        zero-at (suc k) (suc j) = zero-at k j
+
+    go : (s : ℕ) → Dec (s < length xs) → getD (xs ++ drop n (replicate k 0)) s 0 ≡ getD xs s 0
+    go s (yes l) = List·getD-append xs (drop n (replicate k 0)) 0 s l
+    go s (no l) =
+        let e : length xs + (s - length xs) ≡ s = omega arith in
+        ap (λ (j : ℕ). getD (xs ++ drop n (replicate k 0)) j 0) (sym e) ∙ getD-append-add xs (drop n (replicate k 0)) (s - length xs) 0 ∙ zeros k n (s - length xs)
+        ∙ sym (List·getD-eq-default xs 0 {n = s} (omega arith))

@@ -1,0 +1,469 @@
+//! The proved program `trace`, run as a process, prints what the second one says.
+
+mod common;
+
+use common::{at_once, program, run, whole, Ran};
+use second::case::{Call, Case};
+use second::file::{read, write};
+use second::kinds::{self, Kind};
+use second::make::filters::{filter, largest};
+use second::make::{files, traces};
+use second::program::{trace, MOST_OF_A_FILE, MOST_OF_THE_OBSERVATIONS};
+use second::random::{seed, Random};
+use second::rides::*;
+use std::collections::BTreeSet;
+use std::env;
+use std::ffi::{OsStr, OsString};
+use std::fs::{self, File};
+use std::io::{self, Read, Seek, Write};
+use std::os::unix::ffi::{OsStrExt, OsStringExt};
+use std::os::unix::fs::{symlink, PermissionsExt};
+use std::path::{Path, PathBuf};
+use std::process::{ChildStdin, ChildStdout, Command};
+use std::sync::atomic::{AtomicUsize, Ordering};
+use std::thread::sleep;
+use std::time::Duration;
+
+const LEAST_PAIRS: usize = 500;
+
+/// A folder for the files of one test, which goes when the test has passed.
+struct Folder {
+    path: PathBuf,
+}
+
+impl Folder {
+    fn new(test: &str) -> Folder {
+        let name = format!("trace-{test}-{}", std::process::id());
+        let path = Path::new(env!("CARGO_TARGET_TMPDIR")).join(name);
+        fs::create_dir_all(&path).expect("a folder for the files");
+        Folder { path }
+    }
+
+    fn file(&self, name: impl AsRef<OsStr>, bytes: &[u8]) -> PathBuf {
+        let path = self.path.join(name.as_ref());
+        fs::write(&path, bytes).expect("a file that can be written");
+        path
+    }
+}
+
+impl Drop for Folder {
+    fn drop(&mut self) {
+        if !std::thread::panicking() {
+            let _ = fs::remove_dir_all(&self.path);
+        }
+    }
+}
+
+fn trace_with<S: AsRef<OsStr>>(arguments: &[S]) -> Command {
+    let mut command = program("trace");
+    command.args(arguments);
+    command
+}
+
+/// Fails unless the output is that of this file and these observations, to the last byte.
+fn agrees(ran: &Ran, what: &str, file: &[u8], observations: &[u8]) {
+    let own = trace(file, observations);
+    if ran.stdout != own.as_bytes() || !ran.went_well() {
+        let at = own
+            .bytes()
+            .zip(&ran.stdout)
+            .take_while(|(own, other)| own == *other)
+            .count();
+        panic!(
+            "trace differs: {what}\n{}, {}\nthe outputs part at byte {at}\n\
+             second, {} bytes: {}\ntrace, {} bytes: {}\nits end was: {}",
+            save("filter", file),
+            save("observations", observations),
+            own.len(),
+            around(own.as_bytes(), at),
+            ran.stdout.len(),
+            around(&ran.stdout, at),
+            ran.end()
+        );
+    }
+}
+
+/// Saves half of a pair, for `cases trace`, and says where.
+fn save(kind: &str, bytes: &[u8]) -> String {
+    static SAVED: AtomicUsize = AtomicUsize::new(0);
+    let nth = SAVED.fetch_add(1, Ordering::Relaxed);
+    let name = format!("second-{}-{nth}.{kind}", std::process::id());
+    let path = env::temp_dir().join(name);
+    match fs::write(&path, bytes) {
+        Ok(()) => format!("{kind} ({} bytes) saved as {}", bytes.len(), path.display()),
+        Err(error) => format!("{kind} not saved ({error})"),
+    }
+}
+
+fn around(text: &[u8], at: usize) -> String {
+    let from = at.saturating_sub(30);
+    let to = text.len().min(at + 60);
+    format!("...{:?}...", String::from_utf8_lossy(&text[from..to]))
+}
+
+/// Runs `trace` on one pair, both there at once.
+fn pair(folder: &Folder, what: &str, file: &[u8], observations: &[u8]) {
+    let path = folder.file("pair.filter", file);
+    let command = trace_with(&[path]);
+    let ran = run(command, whole(observations.to_vec()), at_once);
+    agrees(&ran, what, file, observations);
+}
+
+#[test]
+fn the_document_s_pairs() {
+    let folder = Folder::new("document");
+    for (file, observations, text) in [
+        (K, K_OBSERVATIONS, "0\n1\nstopped 1\n"),
+        (K_REDUCED, K_OBSERVATIONS, "0\n1\n0\ntraced\n"),
+        (K, R_OBSERVATIONS, "refused 13 1\n"),
+        (K, &[], "0\ntraced\n"),
+        (A, &[], "refused 1 0\n"),
+        (B, &[], "refused 4 0\n"),
+        (C, &[], "0\ntraced\n"),
+        (C, &[0], "0\nstopped 0\n"),
+        (D, &[], "refused 5 0\n"),
+        (E, &[], "refused 2 0\n"),
+        (F, &[], "refused 3 0\n"),
+        (G, &[], "refused 4 0\n"),
+        (H, &[], "refused 6 0\n"),
+    ] {
+        let path = folder.file("ride.filter", file);
+        let ran = run(trace_with(&[path]), whole(observations.to_vec()), at_once);
+        assert_eq!(String::from_utf8_lossy(&ran.stdout), text);
+        assert!(ran.went_well(), "{}", ran.end());
+    }
+}
+
+/// Files and observations of every family, each kind of answer among them.
+#[test]
+fn pairs_agree() {
+    const OF_EACH_FILE_FAMILY: usize = 14;
+    const OF_EACH_TRACE_FAMILY: usize = 34;
+    let seed = seed();
+    println!("SEED={seed}");
+    let mut random = Random::new(seed);
+    let mut pairs: Vec<(&str, Vec<u8>, Vec<u8>)> = Vec::new();
+    for family in files::FAMILIES {
+        for file in some(&mut random, OF_EACH_FILE_FAMILY, family.make) {
+            let case = traces::of_file(&mut random, file);
+            pairs.push((family.name, case.a, case.b));
+        }
+    }
+    for family in traces::FAMILIES {
+        for case in some(&mut random, OF_EACH_TRACE_FAMILY, family.make) {
+            pairs.push((family.name, case.a, case.b));
+        }
+    }
+    println!("{} pairs", pairs.len());
+    assert!(pairs.len() >= LEAST_PAIRS, "only {} pairs", pairs.len());
+    let folder = Folder::new("pairs");
+    let mut seen = BTreeSet::new();
+    for (nth, (family, file, observations)) in pairs.into_iter().enumerate() {
+        let what = format!("SEED={seed}, pair {nth}, family: {family}");
+        pair(&folder, &what, &file, &observations);
+        seen.extend(kinds_of(file, observations));
+    }
+    let missing: Vec<Kind> = kinds::all_of(Call::Trace)
+        .into_iter()
+        // The program's room is always enough.
+        .filter(|kind| *kind != Kind::ShortRoom && !seen.contains(kind))
+        .collect();
+    assert!(missing.is_empty(), "SEED={seed} never led to {missing:?}");
+}
+
+/// So many of what a family makes, evenly from all its variants.
+fn some<T>(random: &mut Random, count: usize, make: fn(&mut Random) -> Vec<T>) -> Vec<T> {
+    let mut made = Vec::new();
+    while made.len() < count {
+        made.extend(make(random));
+    }
+    let all = made.len();
+    made.into_iter()
+        .enumerate()
+        .filter(|(i, _)| (i + 1) * count / all > i * count / all)
+        .map(|(_, one)| one)
+        .collect()
+}
+
+fn kinds_of(mut file: Vec<u8>, mut observations: Vec<u8>) -> Vec<Kind> {
+    file.truncate(MOST_OF_A_FILE);
+    observations.truncate(MOST_OF_THE_OBSERVATIONS);
+    let room = vec![0; observations.len() + 1];
+    let case = Case::trace(file, observations, room);
+    kinds::of(&case, &case.outcome())
+}
+
+#[test]
+fn no_argument() {
+    for observations in [vec![], vec![0], vec![255], vec![0; 65_536]] {
+        let none: [&OsStr; 0] = [];
+        let ran = run(trace_with(&none), whole(observations.clone()), at_once);
+        agrees(&ran, "no argument", &[], &observations);
+    }
+}
+
+/// A name that cannot be opened, or not be read once it is open, stands for an empty file.
+#[test]
+fn names_that_lead_to_no_file() {
+    let folder = Folder::new("no-file");
+    let k = folder.file("k.filter", K);
+    let knot = folder.path.join("knot");
+    symlink(&knot, &knot).expect("a link to itself");
+    let nowhere = folder.path.join("nowhere");
+    symlink(folder.path.join("missing"), &nowhere).expect("a link to nothing");
+    let mut name_of_bytes = folder.path.clone().into_os_string().into_vec();
+    name_of_bytes.extend(b"/\xff\xfe\x01");
+    for name in [
+        OsString::new(),
+        OsString::from(" "),
+        folder.path.join("missing").into_os_string(),
+        folder.path.join("missing/missing").into_os_string(),
+        folder.path.clone().into_os_string(),
+        folder.path.join("").into_os_string(),
+        OsString::from("/"),
+        OsString::from("."),
+        // A file is no folder.
+        k.join("").into_os_string(),
+        k.join("k.filter").into_os_string(),
+        // Longer than a name or a path may be.
+        folder.path.join("a".repeat(300)).into_os_string(),
+        folder.path.join("a/".repeat(5_000)).into_os_string(),
+        OsString::from("a".repeat(100_000)),
+        knot.into_os_string(),
+        nowhere.into_os_string(),
+        OsString::from_vec(name_of_bytes),
+        OsString::from("/dev/null"),
+    ] {
+        for observations in [&[][..], &[0, 1]] {
+            let command = trace_with(&[&name]);
+            let ran = run(command, whole(observations.to_vec()), at_once);
+            agrees(&ran, &format!("the name {name:?}"), &[], observations);
+        }
+    }
+}
+
+/// Whatever the name is made of.
+#[test]
+fn names_that_lead_to_a_file() {
+    let folder = Folder::new("file");
+    let names = [
+        OsStr::new("k"),
+        OsStr::new("name with spaces "),
+        OsStr::new("name\nof two lines"),
+        OsStr::new("-"),
+        OsStr::new("--"),
+        OsStr::new("--help"),
+        OsStr::new("*"),
+        OsStr::new("$HOME"),
+        OsStr::from_bytes(b"bytes \xff\xfe\x80\x01"),
+        OsStr::new("Küste"),
+    ];
+    for (nth, name) in names.into_iter().enumerate() {
+        folder.file(name, K);
+        let link = folder.path.join(format!("link-{nth}"));
+        symlink(name, &link).expect("a link");
+        let own = folder.path.file_name().expect("the folder's name");
+        let roundabout = folder.path.join("./..").join(own).join(name);
+        for argument in [name, roundabout.as_os_str(), link.as_os_str()] {
+            let mut command = trace_with(&[argument]);
+            command.current_dir(&folder.path);
+            let ran = run(command, whole(vec![0, 0, 1, 1, 1, 0]), at_once);
+            let what = format!("the name {argument:?}");
+            agrees(&ran, &what, K, &[0, 0, 1, 1, 1, 0]);
+        }
+    }
+    let long = folder.file("a".repeat(255), K_REDUCED);
+    let ran = run(trace_with(&[long]), whole(vec![0, 1]), at_once);
+    agrees(&ran, "the longest name", K_REDUCED, &[0, 1]);
+}
+
+/// One that the own user may not read, which stops everyone but the superuser.
+#[test]
+fn a_file_without_permission() {
+    let folder = Folder::new("permission");
+    let path = folder.file("k.filter", K);
+    fs::set_permissions(&path, fs::Permissions::from_mode(0o000)).expect("its mode can be set");
+    let file = fs::read(&path).unwrap_or_default();
+    let ran = run(trace_with(&[path]), whole(vec![0, 1]), at_once);
+    agrees(&ran, "a file of mode 0", &file, &[0, 1]);
+}
+
+#[test]
+fn further_arguments_are_ignored() {
+    let folder = Folder::new("arguments");
+    let k = folder.file("k.filter", K).into_os_string();
+    let reduced = folder.file("reduced.filter", K_REDUCED).into_os_string();
+    let missing = folder.path.join("missing").into_os_string();
+    let empty = OsString::new();
+    let mut many = vec![k.clone()];
+    many.extend(vec![reduced.clone(); 1_000]);
+    for (arguments, file) in [
+        (vec![k.clone(), reduced.clone()], K),
+        (vec![reduced.clone(), k.clone()], K_REDUCED),
+        (vec![k.clone(), missing.clone()], K),
+        (vec![k.clone(), empty.clone()], K),
+        (vec![k.clone(), OsString::from("--help")], K),
+        (vec![missing, k.clone()], A),
+        (vec![empty, k.clone()], A),
+        (vec![folder.path.clone().into_os_string(), k], A),
+        (many, K),
+    ] {
+        let ran = run(trace_with(&arguments), whole(vec![0, 1]), at_once);
+        agrees(&ran, &format!("{arguments:?}"), file, &[0, 1]);
+    }
+}
+
+#[test]
+fn lengths_of_the_file() {
+    let folder = Folder::new("file-lengths");
+    let mut random = Random::new(seed());
+    let full = write(&largest(&mut random));
+    assert_eq!(full.len(), 45_253);
+    let observations: Vec<u8> = (0..200).map(|_| random.between(0, 63) as u8).collect();
+    for length in [45_252, 45_253, 45_254, 45_255, 60_000, 200_000] {
+        for ends_with in [0, 255] {
+            let mut file = full.clone();
+            file.resize(length, ends_with);
+            let what = format!("the largest file as {length} bytes");
+            pair(&folder, &what, &file, &observations);
+        }
+        // 2 and 3 come before 5; noise has anything.
+        for begins_with in [C, E, F, &random.bytes(50)] {
+            let mut file = begins_with.to_vec();
+            file.resize(length, 0);
+            let what = format!("{:?} as {length} bytes", &begins_with[..5]);
+            pair(&folder, &what, &file, &[0]);
+        }
+    }
+}
+
+#[test]
+fn lengths_of_standard_input() {
+    let folder = Folder::new("input-lengths");
+    for length in [
+        0, 1, 2, 65_534, 65_535, 65_536, 65_537, 70_000, 131_072, 1_000_000,
+    ] {
+        // Back and forth through K's states 0 and 1; then with a label outside at the end and at the beginning; then
+        // with a stop.
+        let full = vec![0; length];
+        let mut lists = vec![full.clone()];
+        for (at, label) in [(0, 2), (length.saturating_sub(1), 2), (length / 2, 1)] {
+            let mut list = full.clone();
+            if length > 0 {
+                list[at] = label;
+            }
+            lists.push(list);
+        }
+        for list in lists {
+            pair(&folder, &format!("{length} observations"), K, &list);
+        }
+    }
+}
+
+/// No more is taken from a standard input than what counts.
+#[test]
+fn standard_input_is_left_where_the_observations_end() {
+    let folder = Folder::new("input-position");
+    let path = folder.file("k.filter", K);
+    for length in [0, 100, 65_535, 65_536, 65_537, 70_000, 200_000] {
+        let observations = vec![0; length];
+        let input = folder.file("observations", &observations);
+        let mut input = File::open(input).expect("the observations can be opened");
+        let shared = input.try_clone().expect("a second handle");
+        let output = trace_with(&[&path])
+            .stdin(shared)
+            .output()
+            .expect("trace can be started");
+        let ran = Ran {
+            status: output.status,
+            stdout: output.stdout,
+            stderr: output.stderr,
+        };
+        agrees(&ran, &format!("{length} bytes"), K, &observations);
+        let taken = input.stream_position().expect("a position");
+        assert_eq!(taken, length.min(MOST_OF_THE_OBSERVATIONS) as u64);
+    }
+}
+
+/// A standard input that comes in pieces, with some time between them.
+fn in_pieces(stdin: Vec<u8>, size: usize, pause: Duration) -> impl FnOnce(ChildStdin) {
+    move |mut to| {
+        for piece in stdin.chunks(size) {
+            if to.write_all(piece).is_err() {
+                break;
+            }
+            sleep(pause);
+        }
+    }
+}
+
+#[test]
+fn standard_input_in_small_pieces() {
+    let folder = Folder::new("pieces");
+    let mut random = Random::new(seed());
+    let pause = Duration::from_millis(2);
+    for (size, count) in [(1, 40), (2, 41), (3, 100), (7, 100)] {
+        for case in [
+            traces::full_rides(&mut random).swap_remove(60),
+            traces::stopped_rides(&mut random).swap_remove(8),
+            traces::labels_outside(&mut random).swap_remove(20),
+        ] {
+            let path = folder.file("pieces.filter", &case.a);
+            let mut observations = case.b.clone();
+            observations.truncate(count);
+            let feed = in_pieces(observations.clone(), size, pause);
+            let ran = run(trace_with(&[path]), feed, at_once);
+            let what = format!("pieces of {size}");
+            agrees(&ran, &what, &case.a, &observations);
+        }
+    }
+    for (length, size) in [(65_535, 4_099), (65_536, 5_000), (70_000, 8_191)] {
+        let path = folder.file("pieces.filter", K);
+        let observations = vec![0; length];
+        let feed = in_pieces(observations.clone(), size, pause);
+        let ran = run(trace_with(&[path]), feed, at_once);
+        let what = format!("{length} observations in pieces of {size}");
+        agrees(&ran, &what, K, &observations);
+    }
+}
+
+/// A standard output that is first left alone until the pipe is full, and then read in pieces.
+fn slowly(mut from: ChildStdout) -> io::Result<Vec<u8>> {
+    sleep(Duration::from_millis(300));
+    let mut bytes = Vec::new();
+    let mut piece = [0; 3_001];
+    loop {
+        let count = from.read(&mut piece)?;
+        if count == 0 {
+            return Ok(bytes);
+        }
+        bytes.extend(&piece[..count]);
+        sleep(Duration::from_millis(2));
+    }
+}
+
+#[test]
+fn a_slow_reader_of_a_long_ride() {
+    let folder = Folder::new("slow");
+    let mut random = Random::new(seed());
+    // Every pair has an edge, so the ride goes on to the end.
+    let filter = filter(&mut random, 9, 5, 45);
+    let file = write(&filter);
+    let path = folder.file("slow.filter", &file);
+    let observations: Vec<u8> = (0..65_535).map(|_| random.between(0, 4) as u8).collect();
+    for length in [65_535, 30_000] {
+        let list = observations[..length].to_vec();
+        let ran = run(trace_with(&[&path]), whole(list.clone()), slowly);
+        agrees(&ran, "a slow reader", &file, &list);
+    }
+}
+
+#[test]
+fn the_longest_ride_through_the_largest_file() {
+    let folder = Folder::new("longest");
+    let mut random = Random::new(seed());
+    let file = write(&largest(&mut random));
+    assert!(read(&file).is_ok());
+    let observations: Vec<u8> = (0..65_535).map(|_| random.between(0, 63) as u8).collect();
+    pair(&folder, "the longest ride", &file, &observations);
+}
