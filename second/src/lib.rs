@@ -13,8 +13,8 @@
 //! - [`rides`], [`stored`]: the document's rides, and the batch that is stored beside `answers`.
 //!
 //! `cargo test --release --offline` compares them, once target/bin/answers and target/bin/trace are built. The
-//! environment variable SEED makes a run again. For what a failing run has saved, `cases answer < BATCH` answers a batch
-//! and `cases trace FILE < OBSERVATIONS` prints what `trace` should have printed.
+//! environment variable SEED makes a run again. For what a failing run has saved, `cases answer < BATCH` answers a
+//! batch, and `cases trace FILE < OBSERVATIONS` prints what `trace` should have printed.
 
 pub mod bits;
 pub mod call;
