@@ -26,7 +26,7 @@ use Rattle.file.specs.Answers.{Outcome, accepted, refused, readingOutcom
 use Rattle.file.specs.Refusals.{firstOf, onward, checkOf, numbersIn, unpackTests, unpackOf, packOf, listed, laid}
 use Rattle.file.specs.Promise.{CheckPromise, UnpackPromise, PackPromise}
 use Rattle.file.proofs.EdgeLists.{length-flat}
-use Rattle.meaning.specs.TraceLaws.{clash}
+use Rattle.meaning.specs.Cases.{clash}
 use Rattle.file.proofs.Tests.{first-accepted, Sound, check-sound}
 use Rattle.file.proofs.Files.{length-colours, length-edges-in}
 

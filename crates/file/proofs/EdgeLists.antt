@@ -19,7 +19,7 @@ use Rattle.file.specs.declared.Profile.{Profile}
 use Rattle.file.specs.Layout.{edgeBits, edgeWidths, flat}
 use Rattle.file.specs.Contents.{edgeAt, edgesFrom}
 use Rattle.file.specs.Refusals.{Fault, edgeFault, faultAt, firstFault, threes}
-use Rattle.meaning.specs.TraceLaws.{clash}
+use Rattle.meaning.specs.Cases.{clash}
 
 -- ---- as bytes, three an edge
 

@@ -17,7 +17,7 @@ use Rattle.bits.specs.Bits.{field, putField, fields, putFields, total, Fit, Byt
 use Rattle.bits.proofs.Reading.{field-lt}
 use Rattle.bits.proofs.Runs.{fields-append, length-fields, total-append, total-replicate, read-written, write-read, fit-append, fit-run, run-at, length-puts, puts-append}
 use Rattle.bits.proofs.Cover.{cover, bytes-replicate}
-use Rattle.meaning.specs.Filter.{Edge, Filter, states, inside, allInside}
+use Rattle.meaning.specs.Filter.{Edge, Filter, states, inside, each}
 use Rattle.file.specs.declared.Profile.{Profile}
 use Rattle.file.specs.Layout.{headerBits, edgeBits, edgesBegin, fileBits, bytesFor, fileLength, fillBits, edgeWidths, fileWidths, flat, fileValues, lengthOf, written}
 use Rattle.file.specs.Code.{Usable}
@@ -25,7 +25,7 @@ use Rattle.file.specs.Contents.{statesIn, labelsIn, startIn, countIn, co
 use Rattle.file.specs.Refusals.{allBelow, threes, laid}
 use Rattle.file.proofs.Bounds.{states-low, labels-low, states-fit, labels-fit, states-pow, labels-pow}
 use Rattle.file.proofs.EdgeLists.{fields-edges, length-edges, length-widths, total-edges, length-flat, threes-flat}
-use Rattle.meaning.specs.TraceLaws.{and-left, and-right}
+use Rattle.meaning.specs.Cases.{and-left, and-right}
 use Rattle.file.proofs.Tests.{Sound, Writable, fault-free}
 
 -- ---- the fields of a file
@@ -87,12 +87,12 @@ pub below-end : (limit : ℕ) (xs : List ℕ) (i : ℕ) → length xs ≤ i → 
 unfolding allBelow
 below-end limit xs i l = rw (drop-of-length-le xs {i = i} l)
 
-fit-edges : (P : Profile) (n m : ℕ) (es : List Edge) → n ≤ 2 ^ P .states → m ≤ 2 ^ P .labels → allInside n m es ≡ true → Fit (edgeWidths P (length es)) (flat es)
-unfolding Fit edgeWidths flat allInside inside
+fit-edges : (P : Profile) (n m : ℕ) (es : List Edge) → n ≤ 2 ^ P .states → m ≤ 2 ^ P .labels → each (inside n m) es ≡ true → Fit (edgeWidths P (length es)) (flat es)
+unfolding Fit edgeWidths flat each inside
 fit-edges P n m [] hn hm h = tt
 fit-edges P n m (e ∷ es) hn hm h =
-    let a = and-left (ltb (e .source) n && (ltb (e .label) m && ltb (e .target) n)) (allInside n m es) h in
-    let r = and-right (ltb (e .source) n && (ltb (e .label) m && ltb (e .target) n)) (allInside n m es) h in
+    let a = and-left (ltb (e .source) n && (ltb (e .label) m && ltb (e .target) n)) (each (inside n m) es) h in
+    let r = and-right (ltb (e .source) n && (ltb (e .label) m && ltb (e .target) n)) (each (inside n m) es) h in
     let b = and-right (ltb (e .source) n) (ltb (e .label) m && ltb (e .target) n) a in
     let x = ltb-true (e .source) n (and-left (ltb (e .source) n) (ltb (e .label) m && ltb (e .target) n) a) in
     let y = ltb-true (e .label) m (and-left (ltb (e .label) m) (ltb (e .target) n) b) in

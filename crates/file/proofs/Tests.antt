@@ -10,8 +10,8 @@ use lib.Dec.{eqb, leb, ltb}
 use lib.ListN.{length}
 use borrow.Author.Tests.{lt-ltb, le-ltb, le-leb, lt-leb, eq-eqb, ltb-true, ltb-false, leb-true, leb-false, eqb-true, eqb-false, not-false}
 use Rattle.meaning.specs.Pick.{pick}
-use Rattle.meaning.specs.TraceLaws.{clash, and-left, and-right}
-use Rattle.meaning.specs.Filter.{Edge, Filter, states, inside, comesBefore, samePlace, allInside, leads, ascending, inOrder}
+use Rattle.meaning.specs.Cases.{clash, and-left, and-right}
+use Rattle.meaning.specs.Filter.{Edge, Filter, states, inside, comesBefore, samePlace, each, leads, ascending, inOrder}
 use Rattle.file.specs.declared.Profile.{Profile}
 use Rattle.file.specs.Layout.{headerBits, bytesFor, lengthOf}
 use Rattle.file.specs.Contents.{statesIn, labelsIn, startIn, countIn, edgesIn, lengthIn, fillingIn}
@@ -105,12 +105,12 @@ clear-first n m i before e es h = at-clear i (edgeFault n m before e) _ h
 
 -- edges without a fault are inside and ascend strictly
 pub record InOrder (n m : ℕ) (before : Option Edge) (es : List Edge) : Type 0 where
-  pub all-inside : allInside n m es ≡ true
+  pub all-inside : each (inside n m) es ≡ true
   pub ascend : ascending es ≡ true
   pub lead : (b : Edge) → before ≡ some b → leads b es ≡ true
 
 pub fault-free : (n m i : ℕ) (before : Option Edge) (es : List Edge) → firstFault n m before i es ≡ none → InOrder n m before es
-unfolding allInside ascending leads
+unfolding each ascending leads
 fault-free n m i before [] h = record { all-inside = refl; ascend = refl; lead = λ b e. refl }
 fault-free n m i before (e ∷ es) h =
     let c = clear-first n m i before e es h in

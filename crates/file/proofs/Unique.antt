@@ -22,7 +22,7 @@ use Rattle.file.specs.declared.Unpacked.the-variants as unpacked
 use Rattle.file.specs.declared.Packed.{Packed}
 use Rattle.file.specs.declared.Packed.the-variants as packed
 use Rattle.file.specs.Answers.{numberOf, readingOutcome, refusalOutcome, checkedOutcome, unpackedOutcome, packedOutcome}
-use Rattle.meaning.specs.TraceLaws.{clash}
+use Rattle.meaning.specs.Cases.{clash}
 use Rattle.file.proofs.check as check
 use Rattle.file.proofs.check.Kinds as check-kinds
 use Rattle.file.proofs.check.Reads as check-reads

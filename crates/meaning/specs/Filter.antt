@@ -35,10 +35,10 @@ comesBefore e f = ltb (e .source) (f .source) || (eqb (e .source) (f .source) &&
 unfoldable pub samePlace : Edge → Edge → Bool
 samePlace e f = eqb (e .source) (f .source) && eqb (e .label) (f .label)
 
--- Every edge is inside.
-unfoldable pub allInside : ℕ → ℕ → List Edge → Bool
-allInside n m [] = true
-allInside n m (e ∷ es) = inside n m e && allInside n m es
+-- The test holds of each edge.
+unfoldable pub each : (Edge → Bool) → List Edge → Bool
+each p [] = true
+each p (e ∷ es) = p e && each p es
 
 -- e comes before the first of the edges that follow it.
 unfoldable pub leads : Edge → List Edge → Bool
@@ -52,4 +52,4 @@ ascending (e ∷ es) = leads e es && ascending es
 
 -- The start is a state, every edge is inside, and the edges ascend strictly.
 unfoldable pub inOrder : Filter → Bool
-inOrder F = ltb (F .start) (states F) && (allInside (states F) (F .labels) (F .edges) && ascending (F .edges))
+inOrder F = ltb (F .start) (states F) && (each (inside (states F) (F .labels)) (F .edges) && ascending (F .edges))

@@ -1,4 +1,17 @@
+-- Definitions, in the order of document 01.
 pub mod Pick
+pub mod Search
 pub mod Filter
 pub mod Trace
+pub mod Classes
+pub mod Reduced
+-- Laws and theorems.
+pub mod Cases
+pub mod SearchLaws
 pub mod TraceLaws
+pub mod ClassesLaws
+pub mod Reduction
+pub mod Listing
+pub mod Colours
+pub mod Traced
+pub mod Demand

@@ -1,28 +1,19 @@
--- Laws of the edge of a state at a label: one edge more at the end, and where no edge stands yet.
+-- Laws of the edge of a state at a label (one edge more at the end, and where no edge stands yet), and of a ride, one observation
+-- further.
 -- Assumes nothing.
 use mathlib.Core.Path.{_≡_, refl, _∙_}
 use mathlib.Core.Bool.{Bool, true, false, _&&_, _||_}
 use mathlib.Core.Logic.{_⊎_, inl, inr}
 use mathlib.Core.List.{List, [], _∷_, _++_}
-use mathlib.Core.Option.{none, some}
+use mathlib.Core.Option.{Option, none, some}
 use Prim.Native.Nat.{ℕ, _<_}
 use native.Mathlib.Omega.{arith}
 use lib.Dec.{eqb, ltb}
 use borrow.Author.Tests.{eq-eqb, ne-eqb, lt-ltb, ltb-true, eqb-true}
+use Rattle.meaning.specs.Cases.{clash, and-left, and-right}
 use Rattle.meaning.specs.Pick.{pick}
 use Rattle.meaning.specs.Filter.{Edge, comesBefore, leads, ascending}
-use Rattle.meaning.specs.Trace.{target}
-
-pub clash : {A : Type 0} → _≡_ {A = ℕ} 0 1 → A
-clash z = let no : ⊥ = omega arith in absurd no
-
-pub and-left : (a b : Bool) → a && b ≡ true → a ≡ true
-and-left true b h = refl
-and-left false b h = clash cc
-
-pub and-right : (a b : Bool) → a && b ≡ true → b ≡ true
-and-right true b h = h
-and-right false b h = clash cc
+use Rattle.meaning.specs.Trace.{target, ridden, later, halted}
 
 -- the edge stands at this source and label
 abbrev pub stands : Edge → ℕ → ℕ → Bool
@@ -99,3 +90,23 @@ target-fresh (f ∷ fs) e rest h =
     let a = and-left (leads f (fs ++ (e ∷ rest))) _ h in
     let b = and-right (leads f (fs ++ (e ∷ rest))) _ h in
     rw (before-apart f e (leads-far f fs e rest a b)) (target-fresh fs e rest b)
+
+-- ---- a ride
+
+module _ (next : ℕ → ℕ → Option ℕ) (hue : ℕ → ℕ) where
+  pub ridden-on : (s y t : ℕ) (ys : List ℕ) → next s y ≡ some t → ridden next hue s (y ∷ ys) ≡ hue s ∷ ridden next hue t ys
+  unfolding ridden
+  ridden-on s y t ys h = rw h
+
+  pub ridden-stop : (s y : ℕ) (ys : List ℕ) → next s y ≡ none → ridden next hue s (y ∷ ys) ≡ hue s ∷ []
+  unfolding ridden
+  ridden-stop s y ys h = rw h
+
+module _ (next : ℕ → ℕ → Option ℕ) where
+  pub halted-on : (s y t : ℕ) (ys : List ℕ) → next s y ≡ some t → halted next s (y ∷ ys) ≡ later (halted next t ys)
+  unfolding halted
+  halted-on s y t ys h = rw (h, halted)
+
+  pub halted-stop : (s y : ℕ) (ys : List ℕ) → next s y ≡ none → halted next s (y ∷ ys) ≡ some 0
+  unfolding halted
+  halted-stop s y ys h = rw (h, halted)

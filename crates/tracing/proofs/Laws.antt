@@ -15,7 +15,8 @@ use borrow.Author.Tests.{le-leb, lt-leb, leb-false, lt-ltb, ltb-true}
 use Rattle.bits.proofs.Runs.{store-more}
 use Rattle.meaning.specs.Pick.{pick}
 use Rattle.meaning.specs.Trace.{ridden, later, halted}
-use Rattle.meaning.specs.TraceLaws.{clash}
+use Rattle.meaning.specs.TraceLaws.{ridden-on, ridden-stop, halted-on, halted-stop}
+use Rattle.meaning.specs.Cases.{clash}
 use Rattle.file.specs.Refusals.{laid}
 use Rattle.table.specs.Table.{entry, look}
 use Rattle.tracing.specs.Answers.{onto, stop, courseOf}
@@ -95,22 +96,6 @@ look-lt T s y t h = go (ltb s 256) (ltb y 64) (ltb (getD T (s * 64 + y) 0) 256) 
 -- ---- the ride
 
 module _ (next : ℕ → ℕ → Option ℕ) (hue : ℕ → ℕ) where
-  ridden-on : (s y t : ℕ) (ys : List ℕ) → next s y ≡ some t → ridden next hue s (y ∷ ys) ≡ hue s ∷ ridden next hue t ys
-  unfolding ridden
-  ridden-on s y t ys h = rw h
-
-  ridden-stop : (s y : ℕ) (ys : List ℕ) → next s y ≡ none → ridden next hue s (y ∷ ys) ≡ hue s ∷ []
-  unfolding ridden
-  ridden-stop s y ys h = rw h
-
-  halted-on : (s y t : ℕ) (ys : List ℕ) → next s y ≡ some t → halted next s (y ∷ ys) ≡ later (halted next t ys)
-  unfolding halted
-  halted-on s y t ys h = rw (h, halted)
-
-  halted-stop : (s y : ℕ) (ys : List ℕ) → next s y ≡ none → halted next s (y ∷ ys) ≡ some 0
-  unfolding halted
-  halted-stop s y ys h = rw (h, halted)
-
   module _ (start : ℕ) (ys room : List ℕ) where
     abbrev all : List ℕ
     all = ridden next hue start ys
@@ -138,7 +123,7 @@ module _ (next : ℕ → ℕ → Option ℕ) (hue : ℕ → ℕ) where
           let rest = ridden next hue t (drop (i + 1) ys) in
           let cons : drop i ys ≡ getD ys i 0 ∷ drop (i + 1) ys = drop-cons ys i 0 l ∙ rw (add-one i) in
           let parts : all ≡ (take i all ++ (hue s ∷ [])) ++ rest =
-          r .shows ∙ ap (λ (w : List ℕ). take i all ++ w) (ap (ridden next hue s) cons ∙ ridden-on s (getD ys i 0) t (drop (i + 1) ys) h)
+          r .shows ∙ ap (λ (w : List ℕ). take i all ++ w) (ap (ridden next hue s) cons ∙ ridden-on next hue s (getD ys i 0) t (drop (i + 1) ys) h)
           ∙ sym (append-assoc (take i all) (hue s ∷ []) rest) in
           let front : take (i + 1) all ≡ take i all ++ (hue s ∷ []) = ap (take (i + 1)) parts ∙ take-at (take i all ++ (hue s ∷ [])) rest (i + 1) longer in
           record {
@@ -146,7 +131,7 @@ module _ (next : ℕ → ℕ → Option ℕ) (hue : ℕ → ℕ) where
             counts = ap length front ∙ longer;
             holds = put m ∙ ap (λ (w : List ℕ). w ++ drop (i + 1) room) (sym front);
             halts =
-                r .halts ∙ ap (λ (o : List ℕ). from i (halted next s o)) cons ∙ ap (from i) (halted-on s (getD ys i 0) t (drop (i + 1) ys) h)
+                r .halts ∙ ap (λ (o : List ℕ). from i (halted next s o)) cons ∙ ap (from i) (halted-on next s (getD ys i 0) t (drop (i + 1) ys) h)
                 ∙ from-later i (halted next t (drop (i + 1) ys));
           }
 
@@ -157,8 +142,8 @@ module _ (next : ℕ → ℕ → Option ℕ) (hue : ℕ → ℕ) where
       pub riding-stops : i < length ys → i < length room → next s (getD ys i 0) ≡ none → (set now i (hue s) ≡ laid all room) × (halted next start ys ≡ some i)
       riding-stops l m h =
           let cons : drop i ys ≡ getD ys i 0 ∷ drop (i + 1) ys = drop-cons ys i 0 l ∙ rw (add-one i) in (
-            ended m (r .shows ∙ ap (λ (w : List ℕ). take i all ++ w) (ap (ridden next hue s) cons ∙ ridden-stop s (getD ys i 0) (drop (i + 1) ys) h)),
-            r .halts ∙ ap (λ (o : List ℕ). from i (halted next s o)) cons ∙ ap (from i) (halted-stop s (getD ys i 0) (drop (i + 1) ys) h) ∙ ap some (omega arith),
+            ended m (r .shows ∙ ap (λ (w : List ℕ). take i all ++ w) (ap (ridden next hue s) cons ∙ ridden-stop next hue s (getD ys i 0) (drop (i + 1) ys) h)),
+            r .halts ∙ ap (λ (o : List ℕ). from i (halted next s o)) cons ∙ ap (from i) (halted-stop next s (getD ys i 0) (drop (i + 1) ys) h) ∙ ap some (omega arith),
           )
 
       -- no observation is left

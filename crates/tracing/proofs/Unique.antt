@@ -7,7 +7,7 @@ use borrow.Fn.Kinds.{endedOf}
 use denote.Ref.{now}
 use denote.Triple.Clauses.{AtExit}
 use mathlib.Core.Path.{_≡_, refl, ap, sym, _∙_}
-use Rattle.meaning.specs.TraceLaws.{clash}
+use Rattle.meaning.specs.Cases.{clash}
 use Rattle.file.proofs.Unique.{refusal-one}
 use Rattle.tracing.specs.declared.Traced.{Traced}
 use Rattle.tracing.specs.declared.Traced.the-variants as traced

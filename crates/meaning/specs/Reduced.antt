@@ -1,0 +1,87 @@
+-- The reduction of a filter, and its reduced filter (document 01, "Reducing").
+-- Assumes nothing.
+use Prim.Native.Nat.{ℕ, zero, suc}
+use mathlib.Core.Bool.{Bool, true, false, not, _&&_}
+use mathlib.Core.Option.{Option, none, some}
+use mathlib.Core.List.{List, [], _∷_, _++_}
+use lib.Dec.{eqb}
+use Rattle.meaning.specs.Search.{any, least, tab, at}
+use Rattle.meaning.specs.Filter.{Edge, Filter, states}
+use Rattle.meaning.specs.Trace.{edge, colour}
+use Rattle.meaning.specs.Classes.{Task, Classes, groups, reduction, named, classes, number, initial}
+
+-- Two edges lead to different classes. Where one of them is missing there is no difference.
+unfoldable pub apart : List ℕ → Option ℕ → Option ℕ → Bool
+apart P none b = false
+apart P (some a) none = false
+apart P (some a) (some b) = not (eqb (at P a) (at P b))
+
+-- Two states conflict when some label has an edge from each and the two targets are in different classes.
+unfoldable pub conflict : Filter → List ℕ → ℕ → ℕ → Bool
+conflict F P s t = any (λ y. apart P (edge F s y) (edge F t y)) (F .labels)
+
+-- All states take part, "whether the start leads to them or not".
+unfoldable pub live : Filter → ℕ → Bool
+live F s = true
+
+abbrev pub task : Filter → Task
+task F = record {
+  size = states F;
+  live = live F;
+  colour = colour F;
+  conflict = conflict F;
+  group = λ mem clash. groups mem clash (states F);
+}
+
+-- The classes at the end, and the rounds made.
+unfoldable pub reduce : Filter → Classes
+reduce F = reduction (task F)
+
+-- The name of the class with number k.
+unfoldable pub member : ℕ → List ℕ → ℕ → ℕ
+member n P k = least (λ t. named P t && eqb (number P t) k) n
+
+abbrev pub has : Option ℕ → Bool
+has none = false
+has (some a) = true
+
+unfoldable pub mapped : List ℕ → Option ℕ → Option ℕ
+mapped P none = none
+mapped P (some t) = some (number P t)
+
+-- The edge of the class named c at label y: that of its first member that has one, led to the target's class.
+unfoldable pub class-edge : Filter → List ℕ → ℕ → ℕ → Option ℕ
+class-edge F P c y = mapped P (edge F (least (λ s. eqb (at P s) c && has (edge F s y)) (states F)) y)
+
+-- The same of the class with number k. `reduced-edge` and `reduced-has` say that an edge stands exactly where some member has it.
+unfoldable pub edge′ : Filter → List ℕ → ℕ → ℕ → Option ℕ
+edge′ F P k y = class-edge F P (member (states F) P k) y
+
+-- The edges of a function in file order: one edge, if there is one; those of state s with labels below y; those of n states.
+unfoldable pub cell : ℕ → ℕ → Option ℕ → List Edge
+cell s y none = []
+cell s y (some t) = record { source = s; label = y; target = t } ∷ []
+
+unfoldable pub row : (ℕ → Option ℕ) → ℕ → ℕ → List Edge
+row next s zero = []
+row next s (suc y) = row next s y ++ cell s y (next y)
+
+unfoldable pub listed : (ℕ → ℕ → Option ℕ) → ℕ → ℕ → List Edge
+listed next zero m = []
+listed next (suc n) m = listed next n m ++ row (next n) n m
+
+-- One state a class; m is kept; the start is the start's class; the colour is that of the members.
+unfoldable pub merged : Filter → List ℕ → Filter
+merged F P = record {
+  colours = tab (classes (states F) P) (λ k. colour F (member (states F) P k));
+  labels = F .labels;
+  start = number P (F .start);
+  edges = listed (edge′ F P) (classes (states F) P) (F .labels);
+}
+
+unfoldable pub reduced : Filter → Filter
+reduced F = merged F (reduce F .names)
+
+-- Distinct colours: as many as the classes at the beginning.
+unfoldable pub distinct : Filter → ℕ
+distinct F = classes (states F) (initial (task F))
