@@ -136,7 +136,7 @@ module _ (T : Task) (fair : Fair T) where
       (λ q. rw (q, run) (run-keeps Inv step f (cut T Q (place T (Q .names))) (step Q (ltb-true _ _ q) i)))
       (λ q. rw (q, run) i)
 
-  cut-kept : (k : ℕ) (Q : Classes) → place T (Q .names) < n → Kept T k Q → Kept T k (cut T Q (place T (Q .names)))
+  pub cut-kept : (k : ℕ) (Q : Classes) → place T (Q .names) < n → Kept T k Q → Kept T k (cut T Q (place T (Q .names)))
   unfolding cut
   cut-kept k Q h i =
       let e = parted-place (Q .names) h in

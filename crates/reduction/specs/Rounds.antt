@@ -1,0 +1,61 @@
+-- The words of a round as the code has them: edges looked up in the table, class names and groups in lists that may be longer than
+-- the states are many. Assumes nothing.
+use Prim.Native.Nat.{ℕ}
+use mathlib.Core.Bool.{Bool, true, false, not, _&&_}
+use mathlib.Core.List.{List}
+use lib.Dec.{eqb, ltb}
+use Rattle.meaning.specs.Pick.{pick}
+use Rattle.meaning.specs.Search.{any, least, bit, at}
+use Rattle.meaning.specs.Classes.{Task, groups, split}
+use Rattle.meaning.specs.Reduced.{apart}
+use Rattle.table.specs.Table.{look}
+use Rattle.reduction.specs.declared.Found.{Found}
+use Rattle.reduction.specs.declared.Found.the-variants.{Pair, Nothing}
+
+-- The smallest state below n of the colour of s.
+unfoldable pub twin : List ℕ → ℕ → ℕ → ℕ
+twin hues n s = least (λ t. eqb (at hues t) (at hues s)) n
+
+-- Two states conflict.
+unfoldable pub clash : List ℕ → ℕ → List ℕ → ℕ → ℕ → Bool
+clash table m P a b = any (λ y. apart P (look table a y) (look table b y)) m
+
+-- b is a later member of class c that conflicts with a; a is a member that has such a later one.
+unfoldable pub against : (ℕ → ℕ → Bool) → List ℕ → ℕ → ℕ → ℕ → Bool
+against clash P c a b = ltb a b && (eqb (at P b) c && clash a b)
+
+unfoldable pub opposed : ℕ → (ℕ → ℕ → Bool) → List ℕ → ℕ → ℕ → Bool
+opposed n clash P c a = eqb (at P a) c && any (against clash P c a) n
+
+-- The conflicting pair of class c with the smallest first member, and of those with the smallest second.
+unfoldable pub foundOf : ℕ → (ℕ → ℕ → Bool) → List ℕ → ℕ → Found
+foundOf n clash P c = let a = least (opposed n clash P c) n in pick (ltb a n) (Pair a (least (against clash P c a) n)) Nothing
+
+-- Among the states before t, a member of class c that conflicts with s has group g.
+unfoldable pub taken : (ℕ → ℕ → Bool) → List ℕ → List ℕ → ℕ → ℕ → ℕ → ℕ → Bool
+taken clash P G c s g t = any (λ u. eqb (at P u) c && (clash u s && eqb (at G u) g)) t
+
+abbrev pub mark : Bool → ℕ
+mark b = bit b
+
+-- The group of s: 0 where it is no member, and else the smallest that is not taken.
+unfoldable pub group : (ℕ → ℕ → Bool) → List ℕ → ℕ → List ℕ → ℕ → ℕ
+group clash P c G s = elim (eqb (at P s) c) [ true ↦ least (λ g. not (taken clash P G c s g s)) s | false ↦ 0 ]
+
+-- The name of s when class c is split by groups G.
+unfoldable pub renamed : ℕ → List ℕ → ℕ → List ℕ → ℕ → ℕ
+renamed n P c G s = elim (eqb (at P s) c) [ true ↦ least (λ t. eqb (at P t) c && eqb (at G t) (at G s)) n | false ↦ at P s ]
+
+-- The names after a round at class c.
+unfoldable pub rounded : ℕ → (ℕ → ℕ → Bool) → List ℕ → ℕ → List ℕ
+rounded n clash P c = split n P c (groups (λ s. eqb (at P s) c) clash n)
+
+-- What is reduced: n states, all taking part, with colours and a table of edges.
+abbrev pub taskOf : List ℕ → List ℕ → ℕ → ℕ → Task
+taskOf table hues m n = record {
+  size = n;
+  live = λ s. true;
+  colour = at hues;
+  conflict = clash table m;
+  group = λ mem clashes. groups mem clashes n;
+}
