@@ -5,6 +5,7 @@
 //!
 //! - [`bits`], [`file`]: the filter file, read and written;
 //! - [`trace`]: a ride through a filter;
+//! - [`reduce`]: its reduction;
 //! - [`call`]: the library's calls;
 //! - [`program`]: what the programs print;
 //! - [`case`], [`frame`]: one call with all that is lent to it, and how many of them travel as a batch of bytes;
@@ -25,6 +26,7 @@ pub mod kinds;
 pub mod make;
 pub mod program;
 pub mod random;
+pub mod reduce;
 pub mod rides;
 pub mod stored;
 pub mod trace;
