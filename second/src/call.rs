@@ -1,7 +1,7 @@
 //! The library's calls: a number, a place, the counts, and the rooms that were lent.
 
 use crate::file::{judge_edges, read, write, Edge, Filter, Refusal};
-use crate::trace;
+use crate::{reduce, trace};
 
 /// `number` is 0 where the call accepts. Every count of a refused call is 0.
 #[derive(Clone, Copy, Debug, PartialEq, Eq)]
@@ -87,6 +87,35 @@ pub fn trace(file: &[u8], observations: &[u8], colour_room: &mut [u8]) -> Answer
         None => [0; 4],
         Some(i) => [1, i, 0, 0],
     })
+}
+
+/// Counts: the reduced states, the distinct colours, the rounds, the reduced file's length. Writes the reduced file to the
+/// front of the answer room and the new numbers to the first n entries.
+pub fn reduce(file: &[u8], answer_room: &mut [u8], class_entries: &mut [u16]) -> Answer {
+    let filter = match read(file) {
+        Ok(filter) => filter,
+        Err(refusal) => return Answer::refused(refusal),
+    };
+    if answer_room.len() < file.len() {
+        return Answer::refused(Refusal::new(10));
+    }
+    if class_entries.len() < filter.colours.len() {
+        return Answer::refused(Refusal::new(11));
+    }
+    let reduced = reduce::reduce(&filter);
+    let answer = write(&reduced.filter);
+    for (i, &byte) in answer.iter().enumerate() {
+        answer_room[i] = byte;
+    }
+    for (state, &number) in reduced.numbers.iter().enumerate() {
+        class_entries[state] = number as u16;
+    }
+    Answer::accepted([
+        reduced.filter.n(),
+        reduced.distinct_colours,
+        reduced.rounds,
+        answer.len() as u64,
+    ])
 }
 
 fn sizes(filter: &Filter) -> [u64; 4] {

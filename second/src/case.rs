@@ -1,6 +1,6 @@
 //! One call with all that is lent to it, and its outcome with all that was lent.
 
-use crate::call::{check, pack, trace, unpack, Answer};
+use crate::call::{check, pack, reduce, trace, unpack, Answer};
 
 #[derive(Clone, Copy, Debug, PartialEq, Eq, PartialOrd, Ord)]
 pub enum Call {
@@ -8,10 +8,17 @@ pub enum Call {
     Unpack,
     Pack,
     Trace,
+    Reduce,
 }
 
 impl Call {
-    pub const ALL: [Call; 4] = [Call::Check, Call::Unpack, Call::Pack, Call::Trace];
+    pub const ALL: [Call; 5] = [
+        Call::Check,
+        Call::Unpack,
+        Call::Pack,
+        Call::Trace,
+        Call::Reduce,
+    ];
 
     /// The byte that stands for the call in a batch.
     pub fn byte(self) -> u8 {
@@ -20,6 +27,7 @@ impl Call {
             Call::Unpack => 2,
             Call::Pack => 3,
             Call::Trace => 4,
+            Call::Reduce => 5,
         }
     }
 
@@ -30,6 +38,7 @@ impl Call {
             Call::Unpack => &[0, 1, 2, 3, 4, 5, 6, 7, 8, 9, 12],
             Call::Pack => &[0, 14, 2, 3, 7, 8, 9, 10],
             Call::Trace => &[0, 1, 2, 3, 4, 5, 6, 7, 8, 9, 12, 13],
+            Call::Reduce => &[0, 1, 2, 3, 4, 5, 6, 7, 8, 9, 10, 11],
         }
     }
 }
@@ -90,6 +99,18 @@ impl Case {
         }
     }
 
+    /// The class list takes two bytes an entry, big-endian; an odd last byte is no entry.
+    pub fn reduce(file: Vec<u8>, answer_room: Vec<u8>, class_list: Vec<u8>) -> Case {
+        Case {
+            call: Call::Reduce,
+            first: 0,
+            second: 0,
+            a: file,
+            b: answer_room,
+            c: class_list,
+        }
+    }
+
     /// Makes the call.
     pub fn outcome(&self) -> Outcome {
         let mut b = self.b.clone();
@@ -99,8 +120,27 @@ impl Case {
             Call::Unpack => unpack(&self.a, &mut b, &mut c),
             Call::Pack => pack(&self.a, &self.b, self.first, self.second, &mut c),
             Call::Trace => trace(&self.a, &self.b, &mut c),
+            Call::Reduce => {
+                let mut entries = entries_of(&c);
+                let answer = reduce(&self.a, &mut b, &mut entries);
+                put_entries(&entries, &mut c);
+                answer
+            }
         };
         Outcome { answer, b, c }
+    }
+}
+
+fn entries_of(class_list: &[u8]) -> Vec<u16> {
+    class_list
+        .chunks_exact(2)
+        .map(|two| u16::from_be_bytes([two[0], two[1]]))
+        .collect()
+}
+
+fn put_entries(entries: &[u16], class_list: &mut [u8]) {
+    for (two, entry) in class_list.chunks_exact_mut(2).zip(entries) {
+        two.copy_from_slice(&entry.to_be_bytes());
     }
 }
 

@@ -41,6 +41,32 @@ impl Filter {
     }
 }
 
+/// What a file begins with.
+#[derive(Clone, Copy, Debug, PartialEq, Eq)]
+pub struct Header {
+    pub n: u64,
+    pub m: u64,
+    pub start: u64,
+    pub e: u64,
+}
+
+impl Header {
+    /// Of a file that is long enough to have one, whatever follows.
+    pub fn of(file: &[u8]) -> Option<Header> {
+        let bytes = file.get(..5)?;
+        Some(Header::eat(&mut Bits::of(bytes)))
+    }
+
+    fn eat(bits: &mut Bits) -> Header {
+        Header {
+            n: bits.eat(8) + 1,
+            m: bits.eat(6) + 1,
+            start: bits.eat(8),
+            e: bits.eat(15),
+        }
+    }
+}
+
 /// The bytes that a file of n states and e edges has.
 pub fn length(n: u64, e: u64) -> u64 {
     (37 + 6 * n + 22 * e).div_ceil(8)
@@ -52,10 +78,7 @@ pub fn read(bytes: &[u8]) -> Result<Filter, Refusal> {
         return Err(Refusal::new(1));
     }
     let mut bits = Bits::of(bytes);
-    let n = bits.eat(8) + 1;
-    let m = bits.eat(6) + 1;
-    let start = bits.eat(8);
-    let e = bits.eat(15);
+    let Header { n, m, start, e } = Header::eat(&mut bits);
     if start >= n {
         return Err(Refusal::new(2));
     }

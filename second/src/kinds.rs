@@ -1,7 +1,7 @@
 //! The kinds of outcome that a run has to hit, so that none is left to luck.
 
-use crate::bits::Bits;
 use crate::case::{Call, Case, Outcome};
+use crate::file::Header;
 use crate::trace::MOST_OBSERVATIONS;
 
 #[derive(Clone, Copy, Debug, PartialEq, Eq, PartialOrd, Ord)]
@@ -16,7 +16,16 @@ pub enum Kind {
     /// Trace's 12 with room enough, and with few enough observations.
     TooMany,
     ShortRoom,
+    /// Reduce's 10 where the class list is short too.
+    BothShort,
+    NoRound,
+    ManyRounds,
+    NothingMerged,
+    Merged,
 }
+
+/// So many rounds are many; 254 is the most that there can be.
+pub const MANY_ROUNDS: u64 = 200;
 
 /// Where something stands among its like.
 #[derive(Clone, Copy, Debug, PartialEq, Eq, PartialOrd, Ord)]
@@ -62,6 +71,15 @@ pub fn all_of(call: Call) -> Vec<Kind> {
             Kind::ShortRoom,
         ]);
     }
+    if call == Call::Reduce {
+        all.extend([
+            Kind::BothShort,
+            Kind::NoRound,
+            Kind::ManyRounds,
+            Kind::NothingMerged,
+            Kind::Merged,
+        ]);
+    }
     all
 }
 
@@ -74,33 +92,57 @@ pub fn of(case: &Case, outcome: &Outcome) -> Vec<Kind> {
         let place = Where::of(answer.place, edges_of(case));
         kinds.push(Kind::At(call, answer.number, place));
     }
-    if call == Call::Trace {
-        let observations = case.b.len();
-        match answer.number {
-            0 if answer.counts[0] == 1 => {
-                let place = Where::of(answer.counts[1], observations as u64);
-                kinds.push(Kind::Stopped(place));
+    match call {
+        Call::Trace => kinds.extend(of_trace(case, outcome)),
+        Call::Reduce => kinds.extend(of_reduce(case, outcome)),
+        Call::Check | Call::Unpack | Call::Pack => {}
+    }
+    kinds
+}
+
+fn of_trace(case: &Case, outcome: &Outcome) -> Option<Kind> {
+    let answer = outcome.answer;
+    let observations = case.b.len();
+    let place = |index| Where::of(index, observations as u64);
+    match answer.number {
+        0 if answer.counts[0] == 1 => Some(Kind::Stopped(place(answer.counts[1]))),
+        0 if observations == 0 => Some(Kind::StartAlone),
+        0 => Some(Kind::Traced),
+        12 if case.c.len() > observations => Some(Kind::TooMany),
+        12 if observations <= MOST_OBSERVATIONS => Some(Kind::ShortRoom),
+        13 => Some(Kind::At(case.call, 13, place(answer.place))),
+        _ => None,
+    }
+}
+
+fn of_reduce(case: &Case, outcome: &Outcome) -> Vec<Kind> {
+    let n = Header::of(&case.a).map_or(0, |header| header.n);
+    let [states, _, rounds, _] = outcome.answer.counts;
+    let mut kinds = Vec::new();
+    match outcome.answer.number {
+        0 => {
+            if rounds == 0 {
+                kinds.push(Kind::NoRound);
             }
-            0 if observations == 0 => kinds.push(Kind::StartAlone),
-            0 => kinds.push(Kind::Traced),
-            12 if case.c.len() > observations => kinds.push(Kind::TooMany),
-            12 if observations <= MOST_OBSERVATIONS => kinds.push(Kind::ShortRoom),
-            13 => {
-                let place = Where::of(answer.place, observations as u64);
-                kinds.push(Kind::At(call, 13, place));
+            if rounds >= MANY_ROUNDS {
+                kinds.push(Kind::ManyRounds);
             }
-            _ => {}
+            kinds.push(if states == n {
+                Kind::NothingMerged
+            } else {
+                Kind::Merged
+            });
         }
+        10 if (case.c.len() as u64) < 2 * n => kinds.push(Kind::BothShort),
+        _ => {}
     }
     kinds
 }
 
 fn edges_of(case: &Case) -> u64 {
     match case.call {
-        Call::Check | Call::Unpack | Call::Trace => {
-            let mut bits = Bits::of(&case.a);
-            bits.eat(8 + 6 + 8);
-            bits.eat(15)
+        Call::Check | Call::Unpack | Call::Trace | Call::Reduce => {
+            Header::of(&case.a).map_or(0, |header| header.e)
         }
         Call::Pack => case.b.len() as u64 / 3,
     }

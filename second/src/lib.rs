@@ -5,7 +5,7 @@
 //!
 //! - [`bits`], [`file`]: the filter file, read and written;
 //! - [`trace`]: a ride through a filter;
-//! - [`reduce`]: its reduction;
+//! - [`reduce`], [`rounds`]: its reduction, and that round by round as text;
 //! - [`call`]: the library's calls;
 //! - [`program`]: what the programs print;
 //! - [`case`], [`frame`]: one call with all that is lent to it, and how many of them travel as a batch of bytes;
@@ -13,9 +13,10 @@
 //! - [`random`], [`make`]: the cases that are made afresh in each run, by families;
 //! - [`rides`], [`stored`]: the document's rides, and the batch that is stored beside `answers`.
 //!
-//! `cargo test --release --offline` compares them, once target/bin/answers and target/bin/trace are built. The
+//! `cargo test --release --offline` compares them, once answers, trace, reduce and shrink are built in target/bin. The
 //! environment variable SEED makes a run again. For what a failing run has saved, `cases answer < BATCH` answers a
-//! batch, and `cases trace FILE < OBSERVATIONS` prints what `trace` should have printed.
+//! batch, and `cases trace FILE < OBSERVATIONS`, `cases reduce < FILE` and `cases shrink < FILE` print what these
+//! programs should have printed.
 
 pub mod bits;
 pub mod call;
@@ -28,5 +29,6 @@ pub mod program;
 pub mod random;
 pub mod reduce;
 pub mod rides;
+pub mod rounds;
 pub mod stored;
 pub mod trace;

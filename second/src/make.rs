@@ -1,11 +1,13 @@
 //! The cases of a run, made afresh by families. Each family returns all its variants at once, with random contents, so
 //! that none is left to luck.
 
+pub mod chains;
 pub mod damage;
 pub mod draft;
 pub mod files;
 pub mod filters;
 pub mod lists;
+pub mod reduces;
 pub mod rooms;
 pub mod traces;
 
@@ -41,7 +43,8 @@ pub fn batch(random: &mut Random) -> Vec<Made> {
             }
         }
     }
-    for family in lists::FAMILIES.iter().chain(traces::FAMILIES) {
+    let of_cases = [lists::FAMILIES, traces::FAMILIES, reduces::FAMILIES];
+    for family in of_cases.into_iter().flatten() {
         for _ in 0..family.times {
             for case in (family.make)(random) {
                 batch.push(Made {

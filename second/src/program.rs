@@ -1,5 +1,7 @@
 //! What the programs print.
 
+use crate::file::{read, write, Filter, Refusal};
+use crate::reduce::{self, Reduced};
 use crate::trace;
 
 /// The most that a program reads of a filter file: one byte more than the largest has.
@@ -10,11 +12,11 @@ pub const MOST_OF_THE_OBSERVATIONS: usize = 65_536;
 
 /// What `trace` prints for a file and a standard input of any length; a file that cannot be had is empty.
 pub fn trace(file: &[u8], input: &[u8]) -> String {
-    let file = &file[..file.len().min(MOST_OF_A_FILE)];
-    let observations = &input[..input.len().min(MOST_OF_THE_OBSERVATIONS)];
+    let file = up_to(MOST_OF_A_FILE, file);
+    let observations = up_to(MOST_OF_THE_OBSERVATIONS, input);
     let ride = match trace::trace(file, observations, observations.len() + 1) {
         Ok(ride) => ride,
-        Err(refusal) => return format!("refused {} {}\n", refusal.number, refusal.place),
+        Err(refusal) => return refusal_line(refusal),
     };
     let mut text = String::new();
     for colour in &ride.colours {
@@ -25,4 +27,45 @@ pub fn trace(file: &[u8], input: &[u8]) -> String {
         Some(i) => format!("stopped {i}\n"),
     };
     text
+}
+
+/// What `reduce` prints for a standard input of any length.
+pub fn reduce(input: &[u8]) -> String {
+    let (original, reduced) = match reduction(input) {
+        Ok(both) => both,
+        Err(refusal) => return refusal_line(refusal),
+    };
+    let mut text = format!(
+        "{} {} {} {}\n",
+        original.n(),
+        reduced.filter.n(),
+        reduced.distinct_colours,
+        reduced.rounds
+    );
+    for (state, number) in reduced.numbers.iter().enumerate() {
+        text += &format!("{state} {number}\n");
+    }
+    text
+}
+
+/// What `shrink` writes for a standard input of any length.
+pub fn shrink(input: &[u8]) -> Vec<u8> {
+    match reduction(input) {
+        Ok((_, reduced)) => write(&reduced.filter),
+        Err(_) => Vec::new(),
+    }
+}
+
+fn reduction(input: &[u8]) -> Result<(Filter, Reduced), Refusal> {
+    let filter = read(up_to(MOST_OF_A_FILE, input))?;
+    let reduced = reduce::reduce(&filter);
+    Ok((filter, reduced))
+}
+
+fn up_to(most: usize, bytes: &[u8]) -> &[u8] {
+    &bytes[..bytes.len().min(most)]
+}
+
+pub fn refusal_line(refusal: Refusal) -> String {
+    format!("refused {} {}\n", refusal.number, refusal.place)
 }

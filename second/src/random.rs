@@ -46,6 +46,15 @@ impl Random {
         from[self.between(0, from.len() as u64 - 1) as usize]
     }
 
+    /// The numbers below `count`, each once.
+    pub fn shuffled(&mut self, count: u64) -> Vec<u64> {
+        let mut numbers: Vec<u64> = (0..count).collect();
+        for at in 1..numbers.len() {
+            numbers.swap(at, self.between(0, at as u64) as usize);
+        }
+        numbers
+    }
+
     pub fn bytes(&mut self, count: usize) -> Vec<u8> {
         (0..count).map(|_| self.number() as u8).collect()
     }

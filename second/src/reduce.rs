@@ -7,6 +7,10 @@ use crate::file::{Edge, Filter};
 /// The states of one class. Its name is its smallest state, so sets of classes are in the order of their names.
 pub type Class = BTreeSet<u64>;
 
+pub fn name(class: &Class) -> u64 {
+    *class.first().expect("a member")
+}
+
 /// What a reduction comes to.
 #[derive(Clone, Debug, PartialEq, Eq)]
 pub struct Reduced {
@@ -17,30 +21,56 @@ pub struct Reduced {
     pub rounds: u64,
 }
 
+/// The classes at the beginning, or after a round.
+#[derive(Clone, Debug, PartialEq, Eq)]
+pub struct Stage {
+    /// The name of the class that the round took; the beginning took none.
+    pub taken: Option<u64>,
+    pub classes: BTreeSet<Class>,
+}
+
 pub fn reduce(filter: &Filter) -> Reduced {
-    let targets = targets(filter);
-    let mut classes = one_class_a_colour(filter);
-    let distinct_colours = classes.len() as u64;
-    let mut rounds = 0;
-    while let Some(class) = first_in_conflict(filter, &targets, &classes) {
-        let groups = groups(filter, &targets, &classes, &class);
-        classes.remove(&class);
-        classes.extend(groups);
-        rounds += 1;
-    }
+    let stages = stages(filter);
+    let classes = &stages.last().expect("a beginning").classes;
     Reduced {
-        filter: merged(filter, &classes),
-        numbers: numbers(filter, &classes),
-        distinct_colours,
-        rounds,
+        filter: merged(filter, classes),
+        numbers: numbers(filter, classes),
+        distinct_colours: stages[0].classes.len() as u64,
+        rounds: stages.len() as u64 - 1,
     }
 }
 
-type Targets = BTreeMap<(u64, u64), u64>;
+/// The beginning, then what each round comes to.
+pub fn stages(filter: &Filter) -> Vec<Stage> {
+    let targets = targets(filter);
+    let mut classes = one_class_a_colour(filter);
+    let mut stages = vec![Stage {
+        taken: None,
+        classes: classes.clone(),
+    }];
+    loop {
+        let numbers = numbers(filter, &classes);
+        let Some(class) = first_in_conflict(&targets, &numbers, &classes) else {
+            return stages;
+        };
+        classes.remove(&class);
+        classes.extend(groups(&targets, &numbers, &class));
+        stages.push(Stage {
+            taken: Some(name(&class)),
+            classes: classes.clone(),
+        });
+    }
+}
+
+/// For each state and label the target, where there is an edge. A map would do, but a long chain takes millions of looks.
+type Targets = Vec<Vec<Option<u64>>>;
 
 fn targets(filter: &Filter) -> Targets {
-    let one = |edge: &Edge| ((edge.source, edge.label), edge.target);
-    filter.edges.iter().map(one).collect()
+    let mut targets = vec![vec![None; filter.m as usize]; filter.colours.len()];
+    for edge in &filter.edges {
+        targets[edge.source as usize][edge.label as usize] = Some(edge.target);
+    }
+    targets
 }
 
 fn one_class_a_colour(filter: &Filter) -> BTreeSet<Class> {
@@ -63,45 +93,37 @@ fn numbers(filter: &Filter, classes: &BTreeSet<Class>) -> Vec<u64> {
 }
 
 /// Both states have an edge at some label, and the two targets are in different classes.
-fn conflict(filter: &Filter, targets: &Targets, numbers: &[u64], one: u64, other: u64) -> bool {
-    (0..filter.m).any(
-        |label| match (targets.get(&(one, label)), targets.get(&(other, label))) {
-            (Some(&left), Some(&right)) => numbers[left as usize] != numbers[right as usize],
-            _ => false,
-        },
-    )
+fn conflict(targets: &Targets, numbers: &[u64], one: u64, other: u64) -> bool {
+    let mut labels = targets[one as usize].iter().zip(&targets[other as usize]);
+    labels.any(|at| match at {
+        (&Some(left), &Some(right)) => numbers[left as usize] != numbers[right as usize],
+        _ => false,
+    })
 }
 
 fn first_in_conflict(
-    filter: &Filter,
     targets: &Targets,
+    numbers: &[u64],
     classes: &BTreeSet<Class>,
 ) -> Option<Class> {
-    let numbers = numbers(filter, classes);
     let torn = |class: &&Class| {
         class.iter().any(|&one| {
             class
                 .range(one + 1..)
-                .any(|&other| conflict(filter, targets, &numbers, one, other))
+                .any(|&other| conflict(targets, numbers, one, other))
         })
     };
     classes.iter().find(torn).cloned()
 }
 
 /// Members in ascending order, each put into the first group that holds no member it conflicts with.
-fn groups(
-    filter: &Filter,
-    targets: &Targets,
-    classes: &BTreeSet<Class>,
-    class: &Class,
-) -> Vec<Class> {
-    let numbers = numbers(filter, classes);
+fn groups(targets: &Targets, numbers: &[u64], class: &Class) -> Vec<Class> {
     let mut groups: Vec<Class> = Vec::new();
     for &state in class {
         let fits = |group: &&mut Class| {
             !group
                 .iter()
-                .any(|&member| conflict(filter, targets, &numbers, member, state))
+                .any(|&member| conflict(targets, numbers, member, state))
         };
         match groups.iter_mut().find(fits) {
             Some(group) => {
@@ -123,7 +145,7 @@ fn merged(filter: &Filter, classes: &BTreeSet<Class>) -> Filter {
         )
     };
     let edges: BTreeSet<(u64, u64, u64)> = filter.edges.iter().map(lead).collect();
-    let colour = |class: &Class| filter.colours[*class.first().expect("a member") as usize];
+    let colour = |class: &Class| filter.colours[name(class) as usize];
     Filter {
         colours: classes.iter().map(colour).collect(),
         m: filter.m,

@@ -1,4 +1,6 @@
-//! The files and lists of document 01's rides, byte for byte.
+//! Document 01's rides: the files and lists byte for byte, and the filters of which it gives no bytes.
+
+use crate::file::{Edge, Filter};
 
 pub const A: &[u8] = &[];
 pub const B: &[u8] = &[0; 5];
@@ -32,3 +34,51 @@ pub const R_OBSERVATIONS: &[u8] = &[0, 2];
 pub const Q_LABEL_OUTSIDE: &[u8] = &[0, 2, 1];
 pub const Q_DESCENDING: &[u8] = &[0, 1, 2, 0, 0, 1];
 pub const Q_REPEATED: &[u8] = &[0, 0, 1, 0, 0, 2];
+
+/// With start 0 and the largest label plus one as m, as L to P have them.
+pub fn filter_of(colours: &[u64], edges: &[(u64, u64, u64)]) -> Filter {
+    let labels = edges.iter().map(|&(_, label, _)| label);
+    Filter {
+        colours: colours.to_vec(),
+        m: labels.max().expect("an edge") + 1,
+        start: 0,
+        edges: edges
+            .iter()
+            .map(|&(source, label, target)| Edge {
+                source,
+                label,
+                target,
+            })
+            .collect(),
+    }
+}
+
+pub fn ride_l() -> Filter {
+    filter_of(&[0, 0], &[(0, 0, 1)])
+}
+
+pub fn ride_m() -> Filter {
+    let edges = [
+        [(0, 0, 1), (0, 1, 2), (0, 2, 3)],
+        [(1, 0, 0), (1, 1, 3), (1, 2, 2)],
+        [(2, 0, 3), (2, 1, 0), (2, 2, 1)],
+        [(3, 0, 2), (3, 1, 1), (3, 2, 0)],
+    ];
+    filter_of(&[0, 1, 1, 1], &edges.concat())
+}
+
+pub fn ride_n() -> Filter {
+    let edges = [
+        (0, 0, 1),
+        (0, 1, 2),
+        (1, 0, 3),
+        (2, 0, 4),
+        (3, 0, 5),
+        (4, 0, 6),
+    ];
+    filter_of(&[0, 1, 1, 2, 2, 3, 4], &edges)
+}
+
+pub fn ride_p() -> Filter {
+    filter_of(&[0, 0, 1], &[(0, 0, 0), (1, 0, 2)])
+}

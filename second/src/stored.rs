@@ -3,6 +3,7 @@
 use crate::call::check;
 use crate::case::Case;
 use crate::file::{length, write, Edge, Filter};
+use crate::make::chains;
 use crate::rides::*;
 
 pub fn cases() -> Vec<Case> {
@@ -27,9 +28,12 @@ pub fn cases() -> Vec<Case> {
         cases.push(Case::check(file.clone()));
         cases.push(unpack(&file, 3, 12));
         cases.push(trace(&file, K_OBSERVATIONS, 3));
+        cases.push(reduce(&file, file.len(), 6));
     }
     cases.extend(refused_by_pack());
     cases.extend(traces());
+    cases.extend(ride_r_reduced());
+    cases.extend(reduces());
     cases.extend(longer());
     cases
 }
@@ -49,6 +53,11 @@ fn pack(colours: &[u8], edges: &[u8], m: u64, start: u64, room: usize) -> Case {
 
 fn trace(file: &[u8], observations: &[u8], room: usize) -> Case {
     Case::trace(file.to_vec(), observations.to_vec(), found(room))
+}
+
+/// Both rooms in bytes.
+fn reduce(file: &[u8], answer_room: usize, class_list: usize) -> Case {
+    Case::reduce(file.to_vec(), found(answer_room), found(class_list))
 }
 
 fn ride_q() -> Vec<Case> {
@@ -152,6 +161,60 @@ fn traces() -> Vec<Case> {
         // It would stop before the labels outside, of which the first is named.
         trace(K, &[0, 1, 64, 255], 7),
     ]
+}
+
+fn ride_r_reduced() -> Vec<Case> {
+    vec![
+        reduce(K, 17, 6),
+        reduce(K, 18, 4),
+        reduce(K, 18, 6),
+        // Both short; nothing lent; half an entry missing; half an entry too many.
+        reduce(K, 17, 4),
+        reduce(K, 0, 0),
+        reduce(K, 18, 5),
+        reduce(K, 18, 7),
+        // The file's own refusal comes before those of the rooms.
+        reduce(H, 0, 0),
+    ]
+}
+
+/// The rides; the most rounds that there can be; some rounds with some states merged; and rooms that would hold the
+/// reduced file but not the original.
+fn reduces() -> Vec<Case> {
+    let mut cases = Vec::new();
+    for file in [C, K, K_REDUCED] {
+        cases.push(reduce(file, file.len() + 11, 15));
+    }
+    for filter in [
+        ride_l(),
+        ride_m(),
+        ride_n(),
+        ride_p(),
+        chains::plain(256),
+        thinned(40, 4, 3),
+        thinned(90, 6, 20),
+    ] {
+        let file = write(&filter);
+        let entries = filter.colours.len();
+        cases.push(reduce(&file, file.len(), 2 * entries));
+        cases.push(reduce(&file, file.len() + 13, 2 * entries + 9));
+    }
+    let without_edges = write(&regular(256, 1, 0));
+    let reduced = length(64, 0) as usize;
+    cases.push(reduce(&without_edges, reduced, 512));
+    cases.push(reduce(&without_edges, reduced, 511));
+    cases.push(reduce(&without_edges, without_edges.len(), 512));
+    cases
+}
+
+/// Few colours, and two of five pairs without an edge.
+fn thinned(n: u64, m: u64, colours: u64) -> Filter {
+    let mut filter = regular(n, m, n * m);
+    filter.colours = (0..n).map(|state| state * state % colours).collect();
+    filter
+        .edges
+        .retain(|edge| (edge.source * 3 + edge.label * edge.source) % 5 > 1);
+    filter
 }
 
 fn longer() -> Vec<Case> {

@@ -4,6 +4,7 @@ mod common;
 
 use common::{at_once, program, run, whole};
 use second::case::{Call, Case, Outcome};
+use second::file::Header;
 use second::frame::{read_outcomes, write_batch};
 use second::kinds::{self, Kind};
 use second::make::{self, Made};
@@ -16,45 +17,83 @@ const BATCHES: usize = 20;
 const LEAST_FILES: usize = 100_000;
 /// Traces through a file that is accepted.
 const LEAST_RIDES: usize = 100_000;
+/// Filters that were reduced.
+const LEAST_REDUCED: usize = 20_000;
+/// Those of them with as many states and labels as there can be, and many rounds.
+const LEAST_LONG: usize = 20;
+
+/// How much was tried.
+#[derive(Debug, Default)]
+struct Tally {
+    cases: usize,
+    files: usize,
+    rides: usize,
+    reduced: usize,
+    long: usize,
+    kinds: BTreeSet<Kind>,
+}
+
+impl Tally {
+    fn add(&mut self, case: &Case, outcome: &Outcome) {
+        let number = outcome.answer.number;
+        let kinds = kinds::of(case, outcome);
+        self.cases += 1;
+        match case.call {
+            Call::Check => self.files += 1,
+            Call::Trace if [0, 12, 13].contains(&number) => self.rides += 1,
+            Call::Reduce if number == 0 => {
+                self.reduced += 1;
+                if kinds.contains(&Kind::ManyRounds) && is_full_size(&case.a) {
+                    self.long += 1;
+                }
+            }
+            _ => {}
+        }
+        self.kinds.extend(kinds);
+    }
+}
+
+fn is_full_size(file: &[u8]) -> bool {
+    Header::of(file).is_some_and(|header| header.n == 256 && header.m == 64)
+}
 
 #[test]
 fn answers_agree() {
     let seed = seed();
     println!("SEED={seed}");
     let mut random = Random::new(seed);
-    let mut seen = BTreeSet::new();
-    let mut cases = 0;
-    let mut files = 0;
-    let mut rides = 0;
+    let mut tally = Tally::default();
     for nth in 0..BATCHES {
         let batch = make::batch(&mut random);
-        cases += batch.len();
-        files += batch
-            .iter()
-            .filter(|made| made.case.call == Call::Check)
-            .count();
-        rides += compare(seed, nth, batch, &mut seen);
+        compare(seed, nth, batch, &mut tally);
     }
-    println!("{cases} cases, {files} files, {rides} rides");
-    assert!(files >= LEAST_FILES, "only {files} files were tried");
-    assert!(rides >= LEAST_RIDES, "only {rides} rides were tried");
+    println!(
+        "{} cases, {} files, {} rides, {} reduced, {} of them long",
+        tally.cases, tally.files, tally.rides, tally.reduced, tally.long
+    );
+    for (what, tried, least) in [
+        ("files", tally.files, LEAST_FILES),
+        ("rides", tally.rides, LEAST_RIDES),
+        ("reductions", tally.reduced, LEAST_REDUCED),
+        ("long reductions", tally.long, LEAST_LONG),
+    ] {
+        assert!(tried >= least, "only {tried} {what} were tried");
+    }
     let missing: Vec<Kind> = Call::ALL
         .into_iter()
         .flat_map(kinds::all_of)
-        .filter(|kind| !seen.contains(kind))
+        .filter(|kind| !tally.kinds.contains(kind))
         .collect();
     assert!(missing.is_empty(), "SEED={seed} never led to {missing:?}");
 }
 
-/// Adds the kinds of outcome and returns the number of rides.
-fn compare(seed: u64, nth: usize, batch: Vec<Made>, seen: &mut BTreeSet<Kind>) -> usize {
+fn compare(seed: u64, nth: usize, batch: Vec<Made>, tally: &mut Tally) {
     let (families, cases): (Vec<&str>, Vec<Case>) = batch
         .into_iter()
         .map(|made| (made.family, made.case))
         .unzip();
     let ran = run(program("answers"), whole(write_batch(&cases)), at_once);
     let (outcomes, left) = read_outcomes(&ran.stdout, &cases);
-    let mut rides = 0;
     for (i, case) in cases.iter().enumerate() {
         let own = case.outcome();
         let other = outcomes.get(i);
@@ -77,17 +116,13 @@ fn compare(seed: u64, nth: usize, batch: Vec<Made>, seen: &mut BTreeSet<Kind>) -
                 told(&own),
             );
         }
-        seen.extend(kinds::of(case, &own));
-        if case.call == Call::Trace && [0, 12, 13].contains(&own.answer.number) {
-            rides += 1;
-        }
+        tally.add(case, &own);
     }
     assert!(
         left.is_empty(),
         "SEED={seed}: answers wrote more than asked"
     );
     assert!(ran.went_well(), "SEED={seed}: answers: {}", ran.end());
-    rides
 }
 
 /// Saves a batch, for either program's standard input, and says where.

@@ -32,6 +32,7 @@ fn a_few() -> Vec<Case> {
         Case::unpack(K.to_vec(), vec![0xee; 3], vec![0xee; 13]),
         Case::pack(K_COLOURS.to_vec(), K_EDGES.to_vec(), 2, 0, vec![0xee; 19]),
         Case::trace(K.to_vec(), K_OBSERVATIONS.to_vec(), vec![0xee; 4]),
+        Case::reduce(K.to_vec(), vec![0xee; 19], vec![0xee; 9]),
     ]
 }
 
@@ -57,8 +58,9 @@ fn a_batch_without_cases() {
 
 #[test]
 fn fewer_cases_than_announced() {
-    let mut batch = write_batch(&a_few());
-    for count in [5, 1 << 32, 1 << 63, u64::MAX] {
+    let cases = a_few();
+    let mut batch = write_batch(&cases);
+    for count in [cases.len() as u64 + 1, 1 << 32, 1 << 63, u64::MAX] {
         batch[..8].copy_from_slice(&u64::to_be_bytes(count));
         agrees(&batch);
     }

@@ -1,6 +1,7 @@
 //! The second program against what document 01 says in numbers.
 
-use second::call::{check, pack, trace, unpack, Answer};
+use second::call::{check, pack, reduce, trace, unpack, Answer};
+use second::case::Case;
 use second::file::{length, read, write, Edge, Filter};
 use second::program;
 use second::rides::*;
@@ -261,6 +262,95 @@ fn as_many_observations_as_a_ride_takes() {
     assert_eq!(program::trace(K, &observations), "refused 12 0\n");
 }
 
+/// Reduces in rooms of so many bytes and entries, and looks at each of them afterwards.
+fn reduced_in(file: &[u8], rooms: (usize, usize), answer: Answer, wrote: (&[u8], &[u16])) {
+    let mut answer_room = vec![0xee; rooms.0];
+    let mut class_entries = vec![0xeeee; rooms.1];
+    assert_eq!(reduce(file, &mut answer_room, &mut class_entries), answer);
+    let (bytes, numbers) = wrote;
+    assert_eq!(&answer_room[..bytes.len()], bytes);
+    assert!(answer_room[bytes.len()..].iter().all(|&byte| byte == 0xee));
+    assert_eq!(&class_entries[..numbers.len()], numbers);
+    assert!(class_entries[numbers.len()..]
+        .iter()
+        .all(|&entry| entry == 0xeeee));
+}
+
+const NOTHING: (&[u8], &[u16]) = (&[], &[]);
+
+#[test]
+fn rides_c_and_k_reduced() {
+    for more in [0, 1, 40] {
+        let c = accepted([1, 1, 0, 6]);
+        reduced_in(C, (6 + more, 1 + more), c, (C, &[0]));
+        let k = accepted([2, 2, 0, 18]);
+        let rooms = (18 + more, 3 + more);
+        reduced_in(K, rooms, k, (K_REDUCED, &[0, 1, 1]));
+        reduced_in(K_REDUCED, rooms, k, (K_REDUCED, &[0, 1]));
+    }
+}
+
+#[test]
+fn ride_r_reduced() {
+    reduced_in(K, (17, 3), refused(10, 0), NOTHING);
+    reduced_in(K, (18, 2), refused(11, 0), NOTHING);
+    let k = accepted([2, 2, 0, 18]);
+    reduced_in(K, (18, 3), k, (K_REDUCED, &[0, 1, 1]));
+    // 10 comes before 11.
+    reduced_in(K, (17, 2), refused(10, 0), NOTHING);
+    reduced_in(K, (0, 0), refused(10, 0), NOTHING);
+}
+
+/// 10 goes by the original's length: eight states of one colour become one.
+#[test]
+fn the_answer_room_is_as_long_as_the_original() {
+    let eight = write(&Filter {
+        colours: vec![0; 8],
+        m: 1,
+        start: 7,
+        edges: Vec::new(),
+    });
+    assert_eq!((eight.len(), C.len()), (11, 6));
+    for room in [6, 10] {
+        reduced_in(&eight, (room, 8), refused(10, 0), NOTHING);
+    }
+    let one = accepted([1, 1, 0, 6]);
+    reduced_in(&eight, (11, 8), one, (C, &[0; 8]));
+}
+
+#[test]
+fn a_refused_file_ends_the_reduction() {
+    for (file, number) in [(A, 1), (B, 4), (D, 5), (E, 2), (F, 3), (G, 4), (H, 6)] {
+        for rooms in [(0, 0), (50, 0), (0, 50), (50, 50)] {
+            reduced_in(file, rooms, refused(number, 0), NOTHING);
+        }
+        let text = format!("refused {number} 0\n");
+        assert_eq!(program::reduce(file), text);
+        assert_eq!(program::shrink(file), A);
+    }
+}
+
+#[test]
+fn a_class_list_in_a_batch_has_two_bytes_an_entry() {
+    let list = |bytes| {
+        let case = Case::reduce(K.to_vec(), vec![0xee; 18], vec![0xee; bytes]);
+        let outcome = case.outcome();
+        (outcome.answer.number, outcome.c)
+    };
+    assert_eq!(list(4), (11, vec![0xee; 4]));
+    // An odd last byte is no entry.
+    assert_eq!(list(5), (11, vec![0xee; 5]));
+    assert_eq!(list(6), (0, vec![0, 0, 0, 1, 0, 1]));
+    assert_eq!(list(7), (0, vec![0, 0, 0, 1, 0, 1, 0xee]));
+    assert_eq!(list(8), (0, vec![0, 0, 0, 1, 0, 1, 0xee, 0xee]));
+}
+
+#[test]
+fn what_reduce_prints_for_k_and_what_shrink_writes() {
+    assert_eq!(program::reduce(K), "3 2 2 0\n0 0\n1 1\n2 1\n");
+    assert_eq!(program::shrink(K), K_REDUCED);
+}
+
 #[test]
 fn programs_judge_what_they_have_read() {
     // 60,000 bytes count as 45,254, but 2 and 3 still come before 5.
@@ -272,6 +362,8 @@ fn programs_judge_what_they_have_read() {
         let mut file = file.to_vec();
         file.resize(60_000, 0);
         assert_eq!(program::trace(&file, &[]), text);
+        assert_eq!(program::reduce(&file), text);
+        assert_eq!(program::shrink(&file), A);
     }
     // 70,000 observations count as 65,536, which are too many whatever they are.
     assert_eq!(program::trace(K, &[0; 70_000]), "refused 12 0\n");

@@ -1,15 +1,18 @@
 //! The generator makes what its families say, and the second program answers in document 01's order.
 
-use second::bits::{free_bits, Bits};
+use second::bits::free_bits;
 use second::call::check;
 use second::case::{Call, Case};
-use second::file::{length, read, write};
+use second::file::{length, read, write, Filter, Header};
+use second::kinds;
+use second::make::chains::{chains, lengths, rounds};
 use second::make::damage::{one_faulty_edge, two_faulty_edges, Damage};
 use second::make::draft::Draft;
 use second::make::filters::shapes;
 use second::make::rooms::Room;
-use second::make::{files, lists, traces};
+use second::make::{files, lists, reduces, traces};
 use second::random::Random;
+use second::reduce::reduce;
 use std::collections::BTreeSet;
 
 const ROUNDS: u64 = 200;
@@ -18,6 +21,10 @@ fn for_each_seed(what: impl Fn(&mut Random)) {
     for seed in 0..ROUNDS {
         what(&mut Random::new(seed));
     }
+}
+
+fn number(case: &Case) -> u8 {
+    case.outcome().answer.number
 }
 
 #[test]
@@ -57,8 +64,7 @@ fn of_two_faults_in_a_file_the_lower_number_comes() {
 fn of_two_faults_in_lists_the_first_of_the_pair_comes() {
     for_each_seed(|random| {
         for (&(first, second), case) in lists::PAIRS.iter().zip(lists::two_faults(random)) {
-            let number = case.outcome().answer.number;
-            assert_eq!(number, first, "{first} and {second}");
+            assert_eq!(number(&case), first, "{first} and {second}");
         }
     });
 }
@@ -83,7 +89,7 @@ fn two_faults_in_an_edge_are_7() {
             assert_eq!(check(&file).number, 7);
         }
         for case in lists::two_faults_in_an_edge(random) {
-            assert_eq!(case.outcome().answer.number, 7);
+            assert_eq!(number(&case), 7);
         }
     });
 }
@@ -106,11 +112,9 @@ fn every_length_of_filling_comes_with_zeros_and_with_others() {
         let mut seen = BTreeSet::new();
         for file in files::fillings(random) {
             let number = check(&file).number;
-            let mut bits = Bits::of(&file);
-            let n = bits.eat(8) + 1;
-            bits.eat(6 + 8);
-            let e = bits.eat(15);
-            seen.insert((free_bits((37 + 6 * n + 22 * e) as usize), number));
+            let header = Header::of(&file).expect("a header");
+            let bits = 37 + 6 * header.n + 22 * header.e;
+            seen.insert((free_bits(bits as usize), number));
         }
         let all = [1, 3, 5, 7].map(|free| [(free, 0), (free, 6)]).concat();
         assert_eq!(seen, BTreeSet::from_iter(all));
@@ -119,18 +123,12 @@ fn every_length_of_filling_comes_with_zeros_and_with_others() {
 
 #[test]
 fn lists_outside_the_form_are_14_and_a_start_outside_is_2() {
-    let numbers = |cases: Vec<Case>| -> Vec<u8> {
-        cases
-            .iter()
-            .map(|case| case.outcome().answer.number)
-            .collect()
-    };
+    let numbers = |cases: Vec<Case>| -> Vec<u8> { cases.iter().map(number).collect() };
     for_each_seed(|random| {
         let outside = numbers(lists::outside_the_form(random));
         assert!(outside.iter().all(|&number| number == 14));
         for case in lists::start_outside(random) {
-            let number = case.outcome().answer.number;
-            assert_eq!(number == 2, case.second >= case.a.len() as u64);
+            assert_eq!(number(&case) == 2, case.second >= case.a.len() as u64);
         }
         let too_many = numbers(lists::one_edge_too_many(random));
         assert!(too_many.iter().all(|&number| number == 3));
@@ -234,6 +232,147 @@ fn many_observations_are_12_from_65_536_on() {
             let takes = case.b.len() <= 65_535 && enough_room;
             assert_eq!(told(&case) == NO_ROOM, !takes);
         }
+    }
+}
+
+#[test]
+fn in_a_reduction_the_answer_room_decides_before_the_class_list() {
+    let kinds = Room::ALL.len();
+    for_each_seed(|random| {
+        let cases = [reduces::of_the_document(random), reduces::all_rooms(random)];
+        for (i, case) in cases.concat().iter().enumerate() {
+            let expected = match (enough(i / kinds), enough(i)) {
+                (false, _) => 10,
+                (true, false) => 11,
+                (true, true) => 0,
+            };
+            assert_eq!(number(case), expected);
+        }
+        for case in reduces::room_for_the_reduced_alone(random) {
+            assert_eq!(number(&case), 10);
+        }
+    });
+}
+
+#[test]
+fn a_faulty_file_decides_before_the_rooms_of_a_reduction() {
+    for_each_seed(|random| {
+        for (i, case) in reduces::of_faulty_files(random).iter().enumerate() {
+            assert_eq!(usize::from(number(case)), i / 4 + 1);
+        }
+    });
+}
+
+#[test]
+fn chains_take_two_rounds_fewer_than_they_have_states() {
+    for_each_seed(|random| {
+        let count = random.between(1, 8);
+        let states = random.between(2 * count, 40);
+        let lengths = lengths(random, count, states);
+        assert_eq!(lengths.iter().sum::<u64>(), states);
+        let n = states + random.between(0, 5);
+        let m = random.between(1, 5);
+        let filter = chains(random, n, m, &lengths);
+        assert_eq!(read(&write(&filter)), Ok(filter.clone()));
+        assert_eq!(reduce(&filter).rounds, rounds(&lengths));
+    });
+}
+
+#[test]
+fn chains_of_many_rounds_are_of_full_size() {
+    for seed in 0..10 {
+        for case in reduces::many_rounds(&mut Random::new(seed)) {
+            let header = Header::of(&case.a).expect("a header");
+            let answer = case.outcome().answer;
+            assert_eq!((answer.number, header.n, header.m), (0, 256, 64));
+            assert!((200..=254).contains(&answer.counts[2]));
+        }
+    }
+}
+
+#[test]
+fn one_colour_is_one_state_and_different_colours_are_never_merged() {
+    for_each_seed(|random| {
+        for case in reduces::one_colour(random) {
+            assert_eq!(case.outcome().answer.counts[..3], [1, 1, 0]);
+        }
+        for (i, case) in reduces::many_colours(random).iter().enumerate() {
+            let n = Header::of(&case.a).expect("a header").n;
+            let [states, colours, rounds, _] = case.outcome().answer.counts;
+            match i {
+                0 | 1 => assert_eq!((states, colours, rounds), (n, n, 0)),
+                _ => assert_eq!(colours, 64),
+            }
+        }
+    });
+}
+
+/// The states that the start leads to.
+fn reached(filter: &Filter) -> BTreeSet<u64> {
+    let mut reached = BTreeSet::from([filter.start]);
+    loop {
+        let before = reached.len();
+        for edge in &filter.edges {
+            if reached.contains(&edge.source) {
+                reached.insert(edge.target);
+            }
+        }
+        if reached.len() == before {
+            return reached;
+        }
+    }
+}
+
+#[test]
+fn unreachable_parts_are_not_reached() {
+    for_each_seed(|random| {
+        for case in reduces::unreachable_parts(random) {
+            let filter = read(&case.a).expect("accepted");
+            assert!((reached(&filter).len() as u64) < filter.n());
+        }
+    });
+}
+
+/// Where both are rare a family would not tell one reducer from another.
+#[test]
+fn filters_are_merged_and_parted_in_each_family() {
+    for make in [
+        reduces::small_filters,
+        reduces::dense,
+        reduces::sparse,
+        reduces::unreachable_parts,
+        reduces::copied_states,
+        reduces::short_chains,
+    ] {
+        let mut cases = 0;
+        let mut merged = 0;
+        let mut parted = 0;
+        for seed in 0..ROUNDS {
+            for case in make(&mut Random::new(seed)) {
+                let answer = case.outcome().answer;
+                assert_eq!(answer.number, 0);
+                let n = Header::of(&case.a).expect("a header").n;
+                cases += 1;
+                merged += u32::from(answer.counts[0] < n);
+                parted += u32::from(answer.counts[2] > 0);
+            }
+        }
+        assert!(merged > cases / 10, "{merged} of {cases} are merged");
+        assert!(parted > cases / 10, "{parted} of {cases} are parted");
+    }
+}
+
+#[test]
+fn a_few_batches_lead_to_every_kind_of_outcome() {
+    let mut random = Random::new(1);
+    let mut seen = BTreeSet::new();
+    for _ in 0..3 {
+        for made in second::make::batch(&mut random) {
+            seen.extend(kinds::of(&made.case, &made.case.outcome()));
+        }
+    }
+    for kind in Call::ALL.into_iter().flat_map(kinds::all_of) {
+        assert!(seen.contains(&kind), "none is {kind:?}");
     }
 }
 

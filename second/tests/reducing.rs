@@ -1,28 +1,13 @@
 //! The second program's reducer against what document 01 says in numbers, and against what must hold of any reduction.
 
 use second::file::{length, read, write, Edge, Filter};
-use second::make::filters;
+use second::make::chains::plain;
+use second::make::reduces;
 use second::random::{seed, Random};
 use second::reduce::{reduce, Reduced};
 use second::rides::*;
+use second::rounds::rounds;
 use second::trace::ride;
-
-fn filter(colours: &[u64], edges: &[(u64, u64, u64)]) -> Filter {
-    let most = edges.iter().map(|&(_, label, _)| label).max();
-    Filter {
-        colours: colours.to_vec(),
-        m: most.expect("an edge") + 1,
-        start: 0,
-        edges: edges
-            .iter()
-            .map(|&(source, label, target)| Edge {
-                source,
-                label,
-                target,
-            })
-            .collect(),
-    }
-}
 
 fn kept(original: Filter, distinct_colours: u64, rounds: u64) -> Reduced {
     Reduced {
@@ -49,52 +34,45 @@ fn ride_k_folds_two_states() {
 
 #[test]
 fn ride_l_folds_into_one() {
-    let reduced = reduce(&filter(&[0, 0], &[(0, 0, 1)]));
-    assert_eq!(reduced.filter, filter(&[0], &[(0, 0, 0)]));
+    let reduced = reduce(&ride_l());
+    assert_eq!(reduced.filter, filter_of(&[0], &[(0, 0, 0)]));
     assert_eq!(reduced.numbers, [0, 0]);
     assert_eq!(reduced.rounds, 0);
 }
 
 #[test]
 fn ride_m_takes_one_round() {
-    let m = [
-        [(0, 0, 1), (0, 1, 2), (0, 2, 3)],
-        [(1, 0, 0), (1, 1, 3), (1, 2, 2)],
-        [(2, 0, 3), (2, 1, 0), (2, 2, 1)],
-        [(3, 0, 2), (3, 1, 1), (3, 2, 0)],
-    ];
-    let m = filter(&[0, 1, 1, 1], &m.concat());
-    assert_eq!(reduce(&m), kept(m.clone(), 2, 1));
+    assert_eq!(reduce(&ride_m()), kept(ride_m(), 2, 1));
 }
 
 #[test]
 fn ride_n_meets_the_bound() {
-    let edges = [
-        (0, 0, 1),
-        (0, 1, 2),
-        (1, 0, 3),
-        (2, 0, 4),
-        (3, 0, 5),
-        (4, 0, 6),
-    ];
-    let n = filter(&[0, 1, 1, 2, 2, 3, 4], &edges);
-    assert_eq!(reduce(&n), kept(n.clone(), 5, 2));
+    assert_eq!(reduce(&ride_n()), kept(ride_n(), 5, 2));
 }
 
 #[test]
 fn ride_p_takes_one_round() {
-    let p = filter(&[0, 0, 1], &[(0, 0, 0), (1, 0, 2)]);
-    assert_eq!(reduce(&p), kept(p.clone(), 2, 1));
+    assert_eq!(reduce(&ride_p()), kept(ride_p(), 2, 1));
 }
 
-/// State i leads to i + 1 at every label, and the last alone has its own colour: each round parts one state more.
 #[test]
 fn the_longest_chain_takes_254_rounds() {
-    let mut colours = vec![0; 256];
-    colours[255] = 1;
-    let edges: Vec<_> = (0..255).map(|state| (state, 0, state + 1)).collect();
-    let chain = filter(&colours, &edges);
-    assert_eq!(reduce(&chain), kept(chain.clone(), 2, 254));
+    assert_eq!(reduce(&plain(256)), kept(plain(256), 2, 254));
+}
+
+#[test]
+fn the_rounds_as_text() {
+    // N's states 1 and 2 conflict only after 3 and 4 are parted, which is the second class to be tried.
+    assert_eq!(
+        rounds(&write(&ride_n())),
+        "0: 0 1 1 3 3 5 6\n\
+         1 3: 0 1 1 3 4 5 6\n\
+         2 1: 0 1 2 3 4 5 6\n"
+    );
+    // Any two of M's states 1 to 3 have a label where one leads to 0 and the other does not.
+    assert_eq!(rounds(&write(&ride_m())), "0: 0 1 1 1\n1 1: 0 1 2 3\n");
+    assert_eq!(rounds(K), "0: 0 1 1\n");
+    assert_eq!(rounds(D), "refused 5 0\n");
 }
 
 /// Observations that the filter traces from its start, as far as edges go.
@@ -118,30 +96,41 @@ fn what_holds_of_every_reduction() {
     let seed = seed();
     let mut random = Random::new(seed);
     let mut folded = 0;
-    for _ in 0..400 {
-        let original = filters::small(&mut random);
-        let reduced = reduce(&original);
-        let states = reduced.filter.n();
-        assert!(
-            reduced.rounds + reduced.distinct_colours <= states && states <= original.n(),
-            "SEED={seed}"
-        );
-        assert_eq!(
-            read(&write(&reduced.filter)),
-            Ok(reduced.filter.clone()),
-            "SEED={seed}"
-        );
-        assert!(
-            length(states, reduced.filter.e()) <= length(original.n(), original.e()),
-            "SEED={seed}"
-        );
-        let observations = traced(&original, &mut random);
-        assert_eq!(
-            ride(&reduced.filter, &observations),
-            ride(&original, &observations),
-            "SEED={seed}"
-        );
-        folded += u32::from(states < original.n());
+    for _ in 0..100 {
+        let cases = [
+            reduces::small_filters(&mut random),
+            reduces::sparse(&mut random),
+            reduces::copied_states(&mut random),
+        ];
+        for case in cases.concat() {
+            let original = read(&case.a).expect("accepted");
+            let reduced = reduce(&original);
+            holds(&original, &reduced, &mut random, &format!("SEED={seed}"));
+            folded += u32::from(reduced.filter.n() < original.n());
+        }
     }
     assert!(folded > 0, "no filter was folded: SEED={seed}");
+}
+
+fn holds(original: &Filter, reduced: &Reduced, random: &mut Random, what: &str) {
+    let filter = &reduced.filter;
+    assert!(
+        reduced.rounds + reduced.distinct_colours <= filter.n() && filter.n() <= original.n(),
+        "{what}"
+    );
+    assert_eq!(read(&write(filter)), Ok(filter.clone()), "{what}");
+    assert!(
+        length(filter.n(), filter.e()) <= length(original.n(), original.e()),
+        "{what}"
+    );
+    let observations = traced(original, random);
+    assert_eq!(
+        ride(filter, &observations),
+        ride(original, &observations),
+        "{what}"
+    );
+    // States that end in one class are never parted before, and the class conflicts as its members do: so reducing once
+    // more goes through the same rounds and comes to one state a class.
+    let again = kept(filter.clone(), reduced.distinct_colours, reduced.rounds);
+    assert_eq!(reduce(filter), again, "{what}");
 }

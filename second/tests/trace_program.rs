@@ -1,8 +1,11 @@
 //! The proved program `trace`, run as a process, prints what the second one says.
 
 mod common;
+#[path = "common/outputs.rs"]
+mod outputs;
 
 use common::{at_once, program, run, whole, Ran};
+use outputs::{in_pieces, run_on, some, wrote, Folder};
 use second::case::{Call, Case};
 use second::file::{read, write};
 use second::kinds::{self, Kind};
@@ -12,47 +15,16 @@ use second::program::{trace, MOST_OF_A_FILE, MOST_OF_THE_OBSERVATIONS};
 use second::random::{seed, Random};
 use second::rides::*;
 use std::collections::BTreeSet;
-use std::env;
 use std::ffi::{OsStr, OsString};
-use std::fs::{self, File};
-use std::io::{self, Read, Seek, Write};
+use std::fs;
+use std::io::{self, Read};
 use std::os::unix::ffi::{OsStrExt, OsStringExt};
 use std::os::unix::fs::{symlink, PermissionsExt};
-use std::path::{Path, PathBuf};
-use std::process::{ChildStdin, ChildStdout, Command};
-use std::sync::atomic::{AtomicUsize, Ordering};
+use std::process::{ChildStdout, Command};
 use std::thread::sleep;
 use std::time::Duration;
 
 const LEAST_PAIRS: usize = 500;
-
-/// A folder for the files of one test, which goes when the test has passed.
-struct Folder {
-    path: PathBuf,
-}
-
-impl Folder {
-    fn new(test: &str) -> Folder {
-        let name = format!("trace-{test}-{}", std::process::id());
-        let path = Path::new(env!("CARGO_TARGET_TMPDIR")).join(name);
-        fs::create_dir_all(&path).expect("a folder for the files");
-        Folder { path }
-    }
-
-    fn file(&self, name: impl AsRef<OsStr>, bytes: &[u8]) -> PathBuf {
-        let path = self.path.join(name.as_ref());
-        fs::write(&path, bytes).expect("a file that can be written");
-        path
-    }
-}
-
-impl Drop for Folder {
-    fn drop(&mut self) {
-        if !std::thread::panicking() {
-            let _ = fs::remove_dir_all(&self.path);
-        }
-    }
-}
 
 fn trace_with<S: AsRef<OsStr>>(arguments: &[S]) -> Command {
     let mut command = program("trace");
@@ -63,42 +35,8 @@ fn trace_with<S: AsRef<OsStr>>(arguments: &[S]) -> Command {
 /// Fails unless the output is that of this file and these observations, to the last byte.
 fn agrees(ran: &Ran, what: &str, file: &[u8], observations: &[u8]) {
     let own = trace(file, observations);
-    if ran.stdout != own.as_bytes() || !ran.went_well() {
-        let at = own
-            .bytes()
-            .zip(&ran.stdout)
-            .take_while(|(own, other)| own == *other)
-            .count();
-        panic!(
-            "trace differs: {what}\n{}, {}\nthe outputs part at byte {at}\n\
-             second, {} bytes: {}\ntrace, {} bytes: {}\nits end was: {}",
-            save("filter", file),
-            save("observations", observations),
-            own.len(),
-            around(own.as_bytes(), at),
-            ran.stdout.len(),
-            around(&ran.stdout, at),
-            ran.end()
-        );
-    }
-}
-
-/// Saves half of a pair, for `cases trace`, and says where.
-fn save(kind: &str, bytes: &[u8]) -> String {
-    static SAVED: AtomicUsize = AtomicUsize::new(0);
-    let nth = SAVED.fetch_add(1, Ordering::Relaxed);
-    let name = format!("second-{}-{nth}.{kind}", std::process::id());
-    let path = env::temp_dir().join(name);
-    match fs::write(&path, bytes) {
-        Ok(()) => format!("{kind} ({} bytes) saved as {}", bytes.len(), path.display()),
-        Err(error) => format!("{kind} not saved ({error})"),
-    }
-}
-
-fn around(text: &[u8], at: usize) -> String {
-    let from = at.saturating_sub(30);
-    let to = text.len().min(at + 60);
-    format!("...{:?}...", String::from_utf8_lossy(&text[from..to]))
+    let given = [("filter", file), ("observations", observations)];
+    wrote(ran, "trace", what, own.as_bytes(), &given);
 }
 
 /// Runs `trace` on one pair, both there at once.
@@ -111,7 +49,7 @@ fn pair(folder: &Folder, what: &str, file: &[u8], observations: &[u8]) {
 
 #[test]
 fn the_document_s_pairs() {
-    let folder = Folder::new("document");
+    let folder = Folder::new("trace-document");
     for (file, observations, text) in [
         (K, K_OBSERVATIONS, "0\n1\nstopped 1\n"),
         (K_REDUCED, K_OBSERVATIONS, "0\n1\n0\ntraced\n"),
@@ -156,7 +94,7 @@ fn pairs_agree() {
     }
     println!("{} pairs", pairs.len());
     assert!(pairs.len() >= LEAST_PAIRS, "only {} pairs", pairs.len());
-    let folder = Folder::new("pairs");
+    let folder = Folder::new("trace-pairs");
     let mut seen = BTreeSet::new();
     for (nth, (family, file, observations)) in pairs.into_iter().enumerate() {
         let what = format!("SEED={seed}, pair {nth}, family: {family}");
@@ -169,20 +107,6 @@ fn pairs_agree() {
         .filter(|kind| *kind != Kind::ShortRoom && !seen.contains(kind))
         .collect();
     assert!(missing.is_empty(), "SEED={seed} never led to {missing:?}");
-}
-
-/// So many of what a family makes, evenly from all its variants.
-fn some<T>(random: &mut Random, count: usize, make: fn(&mut Random) -> Vec<T>) -> Vec<T> {
-    let mut made = Vec::new();
-    while made.len() < count {
-        made.extend(make(random));
-    }
-    let all = made.len();
-    made.into_iter()
-        .enumerate()
-        .filter(|(i, _)| (i + 1) * count / all > i * count / all)
-        .map(|(_, one)| one)
-        .collect()
 }
 
 fn kinds_of(mut file: Vec<u8>, mut observations: Vec<u8>) -> Vec<Kind> {
@@ -205,7 +129,7 @@ fn no_argument() {
 /// A name that cannot be opened, or not be read once it is open, stands for an empty file.
 #[test]
 fn names_that_lead_to_no_file() {
-    let folder = Folder::new("no-file");
+    let folder = Folder::new("trace-no-file");
     let k = folder.file("k.filter", K);
     let knot = folder.path.join("knot");
     symlink(&knot, &knot).expect("a link to itself");
@@ -245,7 +169,7 @@ fn names_that_lead_to_no_file() {
 /// Whatever the name is made of.
 #[test]
 fn names_that_lead_to_a_file() {
-    let folder = Folder::new("file");
+    let folder = Folder::new("trace-file");
     let names = [
         OsStr::new("k"),
         OsStr::new("name with spaces "),
@@ -280,7 +204,7 @@ fn names_that_lead_to_a_file() {
 /// One that the own user may not read, which stops everyone but the superuser.
 #[test]
 fn a_file_without_permission() {
-    let folder = Folder::new("permission");
+    let folder = Folder::new("trace-permission");
     let path = folder.file("k.filter", K);
     fs::set_permissions(&path, fs::Permissions::from_mode(0o000)).expect("its mode can be set");
     let file = fs::read(&path).unwrap_or_default();
@@ -290,7 +214,7 @@ fn a_file_without_permission() {
 
 #[test]
 fn further_arguments_are_ignored() {
-    let folder = Folder::new("arguments");
+    let folder = Folder::new("trace-arguments");
     let k = folder.file("k.filter", K).into_os_string();
     let reduced = folder.file("reduced.filter", K_REDUCED).into_os_string();
     let missing = folder.path.join("missing").into_os_string();
@@ -315,7 +239,7 @@ fn further_arguments_are_ignored() {
 
 #[test]
 fn lengths_of_the_file() {
-    let folder = Folder::new("file-lengths");
+    let folder = Folder::new("trace-file-lengths");
     let mut random = Random::new(seed());
     let full = write(&largest(&mut random));
     assert_eq!(full.len(), 45_253);
@@ -339,7 +263,7 @@ fn lengths_of_the_file() {
 
 #[test]
 fn lengths_of_standard_input() {
-    let folder = Folder::new("input-lengths");
+    let folder = Folder::new("trace-input-lengths");
     for length in [
         0, 1, 2, 65_534, 65_535, 65_536, 65_537, 70_000, 131_072, 1_000_000,
     ] {
@@ -363,43 +287,20 @@ fn lengths_of_standard_input() {
 /// No more is taken from a standard input than what counts.
 #[test]
 fn standard_input_is_left_where_the_observations_end() {
-    let folder = Folder::new("input-position");
+    let folder = Folder::new("trace-input-position");
     let path = folder.file("k.filter", K);
     for length in [0, 100, 65_535, 65_536, 65_537, 70_000, 200_000] {
         let observations = vec![0; length];
         let input = folder.file("observations", &observations);
-        let mut input = File::open(input).expect("the observations can be opened");
-        let shared = input.try_clone().expect("a second handle");
-        let output = trace_with(&[&path])
-            .stdin(shared)
-            .output()
-            .expect("trace can be started");
-        let ran = Ran {
-            status: output.status,
-            stdout: output.stdout,
-            stderr: output.stderr,
-        };
+        let (ran, taken) = run_on(trace_with(&[&path]), &input);
         agrees(&ran, &format!("{length} bytes"), K, &observations);
-        let taken = input.stream_position().expect("a position");
         assert_eq!(taken, length.min(MOST_OF_THE_OBSERVATIONS) as u64);
-    }
-}
-
-/// A standard input that comes in pieces, with some time between them.
-fn in_pieces(stdin: Vec<u8>, size: usize, pause: Duration) -> impl FnOnce(ChildStdin) {
-    move |mut to| {
-        for piece in stdin.chunks(size) {
-            if to.write_all(piece).is_err() {
-                break;
-            }
-            sleep(pause);
-        }
     }
 }
 
 #[test]
 fn standard_input_in_small_pieces() {
-    let folder = Folder::new("pieces");
+    let folder = Folder::new("trace-pieces");
     let mut random = Random::new(seed());
     let pause = Duration::from_millis(2);
     for (size, count) in [(1, 40), (2, 41), (3, 100), (7, 100)] {
@@ -444,7 +345,7 @@ fn slowly(mut from: ChildStdout) -> io::Result<Vec<u8>> {
 
 #[test]
 fn a_slow_reader_of_a_long_ride() {
-    let folder = Folder::new("slow");
+    let folder = Folder::new("trace-slow");
     let mut random = Random::new(seed());
     // Every pair has an edge, so the ride goes on to the end.
     let filter = filter(&mut random, 9, 5, 45);
@@ -460,7 +361,7 @@ fn a_slow_reader_of_a_long_ride() {
 
 #[test]
 fn the_longest_ride_through_the_largest_file() {
-    let folder = Folder::new("longest");
+    let folder = Folder::new("trace-longest");
     let mut random = Random::new(seed());
     let file = write(&largest(&mut random));
     assert!(read(&file).is_ok());

@@ -6,8 +6,8 @@
 //
 // 1, check: a is the file. 2, unpack: a is the file, b and c are the rooms for colours and edges. 3, pack: a and b are the colours
 // and the edges, c is the room, the two numbers are m and the start. 4, trace: a is the file, b the observations, c the room for
-// colours; its counts are 0 and 0 where all is traced, 1 and i where it stops at i. A case that is cut off, or of another call, ends
-// the batch.
+// colours; its counts are 0 and 0 where all is traced, 1 and i where it stops at i. 5, reduce: a is the file, b the answer room, c the
+// class list, two bytes an entry; an odd last byte is no entry. A case that is cut off, or of another call, ends the batch.
 use file::Checked;
 use file::Packed;
 use file::Reading;
@@ -15,9 +15,10 @@ use file::Refusal;
 use file::Unpacked;
 use libc::STDIN_FILENO;
 use libc::STDOUT_FILENO;
+use reduction::Reduced;
 use tracing::Traced;
 ghost use mathlib.Core.Path.{_≡_};
-ghost use Prim.Native.Nat.{_≤_, _<_};
+ghost use Prim.Native.Nat.{_≤_, _<_, _^_};
 ghost use lib.ListN.{length};
 
 struct Answer {
@@ -89,6 +90,75 @@ fn traced(answer: Traced) -> Answer {
     }
 }
 
+fn reduced(answer: Reduced) -> Answer {
+    match answer {
+        Reduced::Accepted(c) => Answer {
+            number: 0,
+            place: 0,
+            counts: [
+                c.states as u64,
+                c.colours as u64,
+                c.rounds as u64,
+                c.length as u64,
+            ],
+        },
+        Reduced::Refused(why) => of_refusal(why),
+    }
+}
+
+fn no_entries() -> [u16; 65536]
+    ensures { λ r. ⌜ 65536 ≡ length r ⌝ }
+{
+    [0; 65536]
+}
+
+fn wide(x: u16) -> u64
+    ensures { λ r. ⌜ (r ≡ x) × (r < 2 ^ 16) ⌝ }
+{
+    x as u64
+}
+
+// The entries of two bytes each.
+fn read_entries(s: &[u8], list: &mut [u16])
+    requires { ⌜ length (now list) ≤ 65536 ⌝ }
+{
+    let mut i = 0;
+    while i < list.len() {
+        list[i] = bits::get(s, i * 16, 16) as u16;
+        i += 1;
+    }
+}
+
+fn write_entries(s: &mut [u8], list: &[u16])
+    requires { ⌜ length (now list) ≤ 65536 ⌝ }
+{
+    let mut i = 0;
+    while i < list.len() {
+        bits::put(s, i * 16, 16, wide(list[i]));
+        i += 1;
+    }
+}
+
+// The call with the entries of a list, which go back to the bytes they came from.
+fn reduce_with(file: &[u8], answer: &mut [u8], bytes: &mut [u8], list: &mut [u16]) -> Answer
+    requires { ⌜ length (now list) ≤ 65536 ⌝ }
+{
+    read_entries(bytes, list);
+    let made = reduced(reduction::reduce(file, answer, list));
+    write_entries(bytes, list);
+    made
+}
+
+fn reduce(file: &[u8], answer: &mut [u8], bytes: &mut [u8]) -> Answer {
+    let mut entries = no_entries();
+    let n = bytes.len() / 2;
+    // The strings of a case are short enough.
+    if n <= 65536 {
+        return reduce_with(file, answer, bytes, &mut entries[0..n]);
+    }
+    reduce_with(file, answer, bytes, &mut entries)
+}
+
 // The number of eight bytes from bit `at` on.
 fn long(s: &[u8], at: usize) -> u64
     requires { ⌜ at < 1000 ⌝ }
@@ -156,6 +226,10 @@ fn make_call(call: u64, first: u64, second: u64, a: &[u8], b: &mut [u8], c: &mut
     }
     if call == 4 {
         write_answer(traced(tracing::trace(a, b, c)));
+        return write_strings(b, c);
+    }
+    if call == 5 {
+        write_answer(reduce(a, b, c));
         return write_strings(b, c);
     }
     false

@@ -1,37 +1,37 @@
--- The marked rides: one claim over a list of them, about the definitions that
--- the calls' contracts cite.
+-- The marked rides: one claim over a list of them, about the definitions that the calls' contracts cite.
 -- Assumes nothing.
 use Prim.Native.Nat.{ℕ, _+_}
 use mathlib.Core.Path.{_≡_, refl}
 use mathlib.Core.List.{List, [], _∷_, map}
 use lib.ListN.{length}
 use Rattle.bits.specs.Bits.{bitAt, field, splice, putBit, putField, fields, putFields}
-use Rattle.meaning.specs.Filter.{Filter, states, inside, comesBefore, samePlace}
+use Rattle.meaning.specs.Filter.{inside, comesBefore, samePlace}
 use Rattle.meaning.specs.Search.{any, least, count, tab}
-use Rattle.meaning.specs.Classes.{initial, parted, first, free, groups, split, round, place, begin, cut, run, reduction, classes, number}
-use Rattle.meaning.specs.Reduced.{apart, conflict, live, reduce, member, mapped, class-edge, edge′, cell, row, listed, merged, reduced, distinct}
+use Rattle.meaning.specs.Classes.{initial, parted, first, free, groups, split, round, chosen, begin, cut, run, reduction, classes, number}
+use Rattle.meaning.specs.Reduced.{apart, conflict, live, reduce, nameOf, mapped, class-edge, edge′, cell, row, listed, merged, reduced, classList, distinct}
 use Rattle.meaning.specs.Trace.{target, edge, colour, ridden, halted, shown, stops}
 use Rattle.file.specs.Layout.{large, headerBits, edgeBits, edgesBegin, fileBits, bytesFor, fileLength, fillBits, edgeWidths, fileWidths, flat, fileValues, lengthOf, written}
 use Rattle.file.specs.Contents.{statesIn, labelsIn, startIn, countIn, coloursIn, edgeAt, edgesFrom, edgesIn, filterIn, lengthIn, fillingIn}
 use Rattle.file.specs.Answers.{Outcome, accepted, refused}
 use Rattle.file.specs.Refusals.{edgeFault, firstFault, fileTests, checkOf, roomAfter}
 use Rattle.tracing.specs.Tracing.{firstOutside, traceOf}
+use Rattle.reduction.specs.Reducing.{countsOf, reduceOf}
 
 -- The bytes of a file; a refusal, or n, m, start and e; of an accepted file its colours, its edges as bytes, and the bytes that
--- packing these gives; of its reduced filter the bytes, the new number of each state, and states, distinct colours, rounds and length;
--- and observations with what tracing them answers and shows.
+-- packing these gives; what reducing it answers, the reduced file, and the new number of each state; and observations with what
+-- tracing them answers and the colours that are shown.
 pub record Ride : Type 0 where
   pub file : List ℕ
   pub answer : Outcome
   pub colours : List ℕ
   pub edges : List ℕ
   pub packed : List ℕ
-  pub less : List ℕ
-  pub classes : List ℕ
-  pub counts : List ℕ
+  pub reducing : Outcome
+  pub reducedFile : List ℕ
+  pub newNumbers : List ℕ
   pub observations : List ℕ
-  pub traced : Outcome
-  pub hues : List ℕ
+  pub tracing : Outcome
+  pub coloursShown : List ℕ
 
 abbrev pub refusedRide : List ℕ → ℕ → Ride
 refusedRide file number = record {
@@ -40,32 +40,32 @@ refusedRide file number = record {
   colours = [];
   edges = [];
   packed = [];
-  less = [];
-  classes = [];
-  counts = [];
+  reducing = refused number 0;
+  reducedFile = [];
+  newNumbers = [];
   observations = [];
-  traced = refused number 0;
-  hues = [];
+  tracing = refused number 0;
+  coloursShown = [];
 }
 
 abbrev pub acceptedRide : List ℕ → List ℕ → List ℕ → List ℕ → List ℕ → List ℕ → List ℕ → List ℕ → Outcome → List ℕ → Ride
-acceptedRide file numbers colours edges less classes counts observations traced hues = record {
+acceptedRide file numbers colours edges reducedFile newNumbers counts observations tracing coloursShown = record {
   file = file;
   answer = accepted numbers;
   colours = colours;
   edges = edges;
   packed = file;
-  less = less;
-  classes = classes;
-  counts = counts;
+  reducing = accepted counts;
+  reducedFile = reducedFile;
+  newNumbers = newNumbers;
   observations = observations;
-  traced = traced;
-  hues = hues;
+  tracing = tracing;
+  coloursShown = coloursShown;
 }
 
 -- All observations are traced; or the ride stops at i.
-abbrev pub throughout : Outcome
-throughout = accepted (0 ∷ 0 ∷ [])
+abbrev pub traced : Outcome
+traced = accepted (0 ∷ 0 ∷ [])
 
 abbrev pub stoppedAt : ℕ → Outcome
 stoppedAt i = accepted (1 ∷ i ∷ [])
@@ -77,7 +77,7 @@ abbrev pub B : Ride
 B = refusedRide (0x00 ∷ 0x00 ∷ 0x00 ∷ 0x00 ∷ 0x00 ∷ []) 4
 
 abbrev pub C : Ride
-C = acceptedRide (0x00 ∷ 0x00 ∷ 0x00 ∷ 0x00 ∷ 0x00 ∷ 0x00 ∷ []) (1 ∷ 1 ∷ 0 ∷ 0 ∷ []) (0 ∷ []) [] (0x00 ∷ 0x00 ∷ 0x00 ∷ 0x00 ∷ 0x00 ∷ 0x00 ∷ []) (0 ∷ []) (1 ∷ 1 ∷ 0 ∷ 6 ∷ []) [] throughout (0 ∷ [])
+C = acceptedRide (0x00 ∷ 0x00 ∷ 0x00 ∷ 0x00 ∷ 0x00 ∷ 0x00 ∷ []) (1 ∷ 1 ∷ 0 ∷ 0 ∷ []) (0 ∷ []) [] (0x00 ∷ 0x00 ∷ 0x00 ∷ 0x00 ∷ 0x00 ∷ 0x00 ∷ []) (0 ∷ []) (1 ∷ 1 ∷ 0 ∷ 6 ∷ []) [] traced (0 ∷ [])
 
 abbrev pub D : Ride
 D = refusedRide (0x00 ∷ 0x00 ∷ 0x00 ∷ 0x00 ∷ 0x00 ∷ 0x00 ∷ 0x00 ∷ []) 5
@@ -124,7 +124,7 @@ K′ =
     (0 ∷ 1 ∷ [])
     (2 ∷ 2 ∷ 0 ∷ 18 ∷ [])
     (0 ∷ 1 ∷ [])
-    throughout
+    traced
     (0 ∷ 1 ∷ 0 ∷ [])
 
 abbrev pub L : Ride
@@ -137,7 +137,7 @@ L =
     (0x00 ∷ 0x00 ∷ 0x00 ∷ 0x00 ∷ 0x08 ∷ 0x00 ∷ 0x00 ∷ 0x00 ∷ 0x00 ∷ [])
     (0 ∷ 0 ∷ [])
     (1 ∷ 1 ∷ 0 ∷ 9 ∷ [])
-    (0 ∷ []) throughout (0 ∷ 0 ∷ [])
+    (0 ∷ []) traced (0 ∷ 0 ∷ [])
 
 -- N keeps its states: seven, as many as 2 rounds and 5 colours
 abbrev pub bytesN : List ℕ
@@ -160,30 +160,28 @@ N =
 abbrev pub rides : List Ride
 rides = A ∷ B ∷ C ∷ D ∷ E ∷ F ∷ G ∷ H ∷ K ∷ K′ ∷ L ∷ N ∷ []
 
--- The new number of each state.
-unfoldable pub numbers : Filter → List ℕ
-numbers F = tab (states F) (number (reduce F .names))
-
--- Reduced states, distinct colours, rounds, and the reduced file's length.
-unfoldable pub tally : Filter → List ℕ
-tally F = states (reduced F) ∷ distinct F ∷ reduce F .rounds ∷ lengthOf large (reduced F) ∷ []
-
--- A ride with what the definitions make of its file: what they would leave in empty rooms.
+-- A ride with what the definitions make of its file: what reducing and tracing answer in rooms that are just long enough, and of
+-- each room what the call writes.
 unfoldable pub done : Ride → Ride
-done r = record {
-  file = r .file;
-  answer = checkOf large (r .file);
-  colours = roomAfter (checkOf large (r .file)) (coloursIn large (r .file)) [];
-  edges = roomAfter (checkOf large (r .file)) (flat (edgesIn large (r .file))) [];
-  packed = roomAfter (checkOf large (r .file)) (written large (filterIn large (r .file))) [];
-  less = roomAfter (checkOf large (r .file)) (written large (reduced (filterIn large (r .file)))) [];
-  classes = roomAfter (checkOf large (r .file)) (numbers (filterIn large (r .file))) [];
-  counts = roomAfter (checkOf large (r .file)) (tally (filterIn large (r .file))) [];
-  observations = r .observations;
-  traced = traceOf large (r .file) (r .observations) (length (r .observations) + 1);
-  hues = roomAfter (traceOf large (r .file) (r .observations) (length (r .observations) + 1)) (shown (filterIn large (r .file)) (r .observations)) [];
-}
+done r =
+    let s = r .file in
+    let F = filterIn large s in
+    let reducing = reduceOf large s (length s) (statesIn large s) in
+    let tracing = traceOf large s (r .observations) (length (r .observations) + 1) in
+    record {
+      file = s;
+      answer = checkOf large s;
+      colours = roomAfter (checkOf large s) (coloursIn large s) [];
+      edges = roomAfter (checkOf large s) (flat (edgesIn large s)) [];
+      packed = roomAfter (checkOf large s) (written large F) [];
+      reducing = reducing;
+      reducedFile = roomAfter reducing (written large (reduced F)) [];
+      newNumbers = roomAfter reducing (classList F) [];
+      observations = r .observations;
+      tracing = tracing;
+      coloursShown = roomAfter tracing (shown F (r .observations)) [];
+    }
 
 pub rides-hold : map done rides ≡ rides
-unfolding done numbers tally any least count tab initial parted first free groups split round place begin cut run reduction classes number apart conflict live reduce member mapped class-edge edge′ cell row listed merged reduced distinct bitAt field splice putBit putField fields putFields inside comesBefore samePlace headerBits edgeBits edgesBegin fileBits bytesFor fileLength fillBits edgeWidths fileWidths flat fileValues lengthOf written statesIn labelsIn startIn countIn coloursIn edgeAt edgesFrom edgesIn filterIn lengthIn fillingIn edgeFault firstFault fileTests checkOf target edge colour ridden halted shown stops firstOutside traceOf
+unfolding done reduceOf countsOf classList any least count tab initial parted first free groups split round chosen begin cut run reduction classes number apart conflict live reduce nameOf mapped class-edge edge′ cell row listed merged reduced distinct bitAt field splice putBit putField fields putFields inside comesBefore samePlace headerBits edgeBits edgesBegin fileBits bytesFor fileLength fillBits edgeWidths fileWidths flat fileValues lengthOf written statesIn labelsIn startIn countIn coloursIn edgeAt edgesFrom edgesIn filterIn lengthIn fillingIn edgeFault firstFault fileTests checkOf target edge colour ridden halted shown stops firstOutside traceOf
 rides-hold = refl

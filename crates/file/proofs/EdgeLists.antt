@@ -16,7 +16,8 @@ use Rattle.bits.proofs.Writing.{put-three}
 use Rattle.bits.proofs.Runs.{puts-append, store-more}
 use Rattle.meaning.specs.Filter.{Edge}
 use Rattle.file.specs.declared.Profile.{Profile}
-use Rattle.file.specs.Layout.{edgeBits, edgeWidths, flat}
+use Rattle.file.specs.Layout.{edgeBits, edgeWidths, flat, putEdges}
+use Rattle.file.specs.Code.{edgeIn}
 use Rattle.file.specs.Contents.{edgeAt, edgesFrom}
 use Rattle.file.specs.Refusals.{Fault, edgeFault, faultAt, firstFault, threes}
 use Rattle.meaning.specs.Cases.{clash}
@@ -225,34 +226,40 @@ fit-edge P (suc e) (a ∷ b ∷ []) i f l = absurd (f .1 .1)
 fit-edge P (suc e) (a ∷ b ∷ c ∷ vs) zero f l = record { source = f .0; label = f .1 .0; target = f .1 .1 .0 }
 fit-edge P (suc e) (a ∷ b ∷ c ∷ vs) (suc i) f l = fits-cons P a b c vs i (fit-edge P e vs i (f .1 .1 .1) (omega arith))
 
-widths-snoc : (P : Profile) (e : ℕ) → edgeWidths P (suc e) ≡ edgeWidths P e ++ (P .states ∷ P .labels ∷ P .states ∷ [])
-unfolding edgeWidths
-widths-snoc P zero = refl
-widths-snoc P (suc e) = ap {B = List ℕ} (λ r. P .states ∷ P .labels ∷ P .states ∷ r) (widths-snoc P e)
-
 take-three : (vs : List ℕ) (o : ℕ) → o + 2 < length vs → take (o + 3) vs ≡ take o vs ++ (getD vs o 0 ∷ getD vs (o + 1) 0 ∷ getD vs (o + 2) 0 ∷ [])
 take-three vs o h = rw (take-add o 3 vs, drop-three vs o h)
 
--- one edge more is written, its three parts joined to one field
-pub puts-edge : (P : Profile) (s : List ℕ) (at i : ℕ) (vs : List ℕ) → 3 * i + 2 < length vs → Fits P vs (3 * i) →
-    putField (putFields s at (edgeWidths P i) (take (3 * i) vs)) (at + edgeBits P * i) (edgeBits P)
-    ((getD vs (3 * i) 0 * 2 ^ P .labels + getD vs (3 * i + 1) 0) * 2 ^ P .states + getD vs (3 * i + 2) 0)
+-- an edge's three parts joined to one field
+pub put-joined : (P : Profile) (s : List ℕ) (at : ℕ) (e : Edge) → e .source < 2 ^ P .states → e .label < 2 ^ P .labels → e .target < 2 ^ P .states →
+    putField s at (P .states + P .labels + P .states) ((e .source * 2 ^ P .labels + e .label) * 2 ^ P .states + e .target) ≡ putEdges P s at (e ∷ [])
+unfolding edgeWidths flat putFields
+put-joined P s at e hs hl ht = put-three s at (P .states) (P .labels) (P .states) (e .source) (e .label) (e .target) hs hl ht
+
+widths-append : (P : Profile) (i k : ℕ) → edgeWidths P (i + k) ≡ edgeWidths P i ++ edgeWidths P k
+unfolding edgeWidths
+widths-append P zero k = ap (edgeWidths P) (zero-add k)
+widths-append P (suc i) k = rw (suc-add i k) (ap {B = List ℕ} (λ r. P .states ∷ P .labels ∷ P .states ∷ r) (widths-append P i k))
+
+-- edges written behind edges
+pub puts-edges : (P : Profile) (s : List ℕ) (at i k : ℕ) (vs ws : List ℕ) → length vs ≡ 3 * i →
+    putFields (putFields s at (edgeWidths P i) vs) (at + edgeBits P * i) (edgeWidths P k) ws ≡ putFields s at (edgeWidths P (i + k)) (vs ++ ws)
+puts-edges P s at i k vs ws h =
+    rw (widths-append P i k, puts-append s at (edgeWidths P i) (edgeWidths P k) vs ws (length-widths P i ∙ sym h), total-edges P i)
+
+pub edges-behind : (P : Profile) (s : List ℕ) (at : ℕ) (es fs : List Edge) →
+    putEdges P (putEdges P s at es) (at + edgeBits P * length es) fs ≡ putEdges P s at (es ++ fs)
+edges-behind P s at es fs =
+    rw (length-append es fs, flat-append es fs) (puts-edges P s at (length es) (length fs) (flat es) (flat fs) (length-flat es))
+
+-- the next edge of a list is written behind those before it
+pub puts-listed : (P : Profile) (s : List ℕ) (at i : ℕ) (vs : List ℕ) → 3 * i + 2 < length vs →
+    putEdges P (putFields s at (edgeWidths P i) (take (3 * i) vs)) (at + edgeBits P * i) (edgeIn vs (3 * i) ∷ [])
     ≡ putFields s at (edgeWidths P (i + 1)) (take (3 * (i + 1)) vs)
-unfolding edgeBits putFields
-puts-edge P s at i vs l f =
+unfolding flat
+puts-listed P s at i vs l =
     let next : 3 * (i + 1) ≡ 3 * i + 3 = omega arith in
-    let x = getD vs (3 * i) 0 in
-    let y = getD vs (3 * i + 1) 0 in
-    let z = getD vs (3 * i + 2) 0 in
-    rw (
-      next,
-      take-three vs (3 * i) l,
-      add-one i,
-      widths-snoc P i,
-      puts-append s at (edgeWidths P i) (P .states ∷ P .labels ∷ P .states ∷ []) (take (3 * i) vs) (x ∷ y ∷ z ∷ []) (length-widths P i ∙ sym (length-take-le (3 * i) vs (omega arith))),
-      total-edges P i,
-    )
-    (put-three (putFields s at (edgeWidths P i) (take (3 * i) vs)) (at + edgeBits P * i) (P .states) (P .labels) (P .states) x y z (f .source) (f .label) (f .target))
+    rw (next, take-three vs (3 * i) l)
+    (puts-edges P s at i 1 (take (3 * i) vs) (getD vs (3 * i) 0 ∷ getD vs (3 * i + 1) 0 ∷ getD vs (3 * i + 2) 0 ∷ []) (length-take-le (3 * i) vs (omega arith)))
 
 -- ---- the first fault, one edge further
 

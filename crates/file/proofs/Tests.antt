@@ -8,9 +8,9 @@ use Prim.Native.Nat.{ℕ, suc, _*_, _-_, _^_, _≤_, _<_}
 use native.Mathlib.Omega.{arith}
 use lib.Dec.{eqb, leb, ltb}
 use lib.ListN.{length}
-use borrow.Author.Tests.{lt-ltb, le-ltb, le-leb, lt-leb, eq-eqb, ltb-true, ltb-false, leb-true, leb-false, eqb-true, eqb-false, not-false}
+use borrow.Author.Tests.{lt-ltb, le-ltb, le-leb, lt-leb, eq-eqb, ne-eqb, ltb-true, ltb-false, leb-true, leb-false, eqb-true, eqb-false, not-false}
 use Rattle.meaning.specs.Pick.{pick}
-use Rattle.meaning.specs.Cases.{clash, and-left, and-right}
+use Rattle.meaning.specs.Cases.{clash, test, and-left, and-right}
 use Rattle.meaning.specs.Filter.{Edge, Filter, states, inside, comesBefore, samePlace, each, leads, ascending, inOrder}
 use Rattle.file.specs.declared.Profile.{Profile}
 use Rattle.file.specs.Layout.{headerBits, bytesFor, lengthOf}
@@ -121,6 +121,31 @@ fault-free n m i before (e ∷ es) h =
       ascend = rw (r .lead e refl) (r .ascend);
       lead = λ b p. order-clear e b (rw p at (q .1));
     }
+
+-- and edges that are inside and ascend strictly have none
+after-not : (a b : Edge) → comesBefore b a ≡ true → (comesBefore a b ≡ false) × (samePlace a b ≡ false)
+unfolding comesBefore samePlace
+after-not a b h = test (ltb (b .source) (a .source))
+    (λ q. let l = ltb-true (b .source) (a .source) q in
+    (rw (le-ltb (a .source) (b .source) (omega arith), ne-eqb (a .source) (b .source) (λ e. omega arith)), rw (ne-eqb (a .source) (b .source) (λ e. omega arith))))
+    (λ q. let r : eqb (b .source) (a .source) && ltb (b .label) (a .label) ≡ true = rw q at h in
+    let s = eqb-true (b .source) (a .source) (and-left (eqb (b .source) (a .source)) (ltb (b .label) (a .label)) r) in
+    let l = ltb-true (b .label) (a .label) (and-right (eqb (b .source) (a .source)) (ltb (b .label) (a .label)) r) in
+    let e = eq-eqb (a .source) (b .source) (sym s) in
+    (rw (le-ltb (a .source) (b .source) (omega arith), e, le-ltb (a .label) (b .label) (omega arith)), rw (e, ne-eqb (a .label) (b .label) (λ z. omega arith))))
+
+order-free : (before : Option Edge) (e : Edge) → ((b : Edge) → before ≡ some b → comesBefore b e ≡ true) → orderFault before e ≡ none
+order-free none e h = refl
+order-free (some b) e h = let q = after-not e b (h b refl) in rw (q .0, q .1)
+
+pub clear-order : (n m i : ℕ) (before : Option Edge) (es : List Edge) → each (inside n m) es ≡ true → ascending es ≡ true →
+    ((b : Edge) → before ≡ some b → leads b es ≡ true) → firstFault n m before i es ≡ none
+unfolding firstFault edgeFault each ascending leads
+clear-order n m i before [] ins asc lead = refl
+clear-order n m i before (e ∷ es) ins asc lead =
+    rw (and-left (inside n m e) (each (inside n m) es) ins, order-free before e lead)
+    (clear-order n m (suc i) (some e) es (and-right (inside n m e) (each (inside n m) es) ins) (and-right (leads e es) (ascending es) asc)
+    (λ b p. let q : e ≡ b = cc in rw (← q) (and-left (leads e es) (ascending es) asc)))
 
 -- ---- a file
 

@@ -54,6 +54,10 @@ unfoldable pub flat : List Edge → List ℕ
 flat [] = []
 flat (e ∷ es) = e .source ∷ e .label ∷ e .target ∷ flat es
 
+-- A room with edges written one after another from bit `at` on.
+abbrev pub putEdges : Profile → List ℕ → ℕ → List Edge → List ℕ
+putEdges P room at es = putFields room at (edgeWidths P (length es)) (flat es)
+
 -- What the fields hold: n - 1, m - 1, start, e, the colours, the edges, and 0 to fill.
 unfoldable pub fileValues : Filter → List ℕ
 fileValues F =

@@ -1,7 +1,9 @@
-// One edge, read from a file.
+// One edge, read from a file or written to one.
 use crate::Profile;
 ghost use mathlib.Core.Path.{_≡_};
-ghost use Prim.Native.Nat.{_<_};
+ghost use mathlib.Core.List.{_∷_, []};
+ghost use Prim.Native.Nat.{_+_, _*_, _<_, _^_};
+ghost use Rattle.file.specs.Layout.{putEdges};
 ghost use Rattle.file.specs.Contents.{edgeAt};
 ghost use Rattle.file.specs.Code.{edgeOf, Usable};
 
@@ -24,4 +26,23 @@ pub fn read(p: Profile, file: &[u8], at: usize) -> Edge
         label: (v >> states) % (1usize << labels),
         target: v % (1usize << states),
     }
+}
+
+// Writes an edge as one field from bit `at` on; all other bits stay.
+pub fn put(p: Profile, room: &mut [u8], at: usize, edge: Edge)
+    requires { ⌜ Usable p × (edge .source < 2 ^ p .states) × (edge .label < 2 ^ p .labels) × (edge .target < 2 ^ p .states) ⌝ }
+    ensures { λ _. ⌜ now (room .exit) ≡ putEdges p (now (room .entry)) at (edgeOf edge ∷ []) ⌝ }
+{
+    bits::put(room, at, p.states + p.labels + p.states, joined(p, edge));
+}
+
+// An edge as the number that its field holds.
+fn joined(p: Profile, edge: Edge) -> u64
+    requires { ⌜ Usable p × (edge .source < 2 ^ p .states) × (edge .label < 2 ^ p .labels) × (edge .target < 2 ^ p .states) ⌝ }
+    ensures { λ r. ⌜ (r ≡ (edge .source * 2 ^ p .labels + edge .label) * 2 ^ p .states + edge .target) × (r < 2 ^ (p .states + p .labels + p .states)) ⌝ }
+{
+    let states = p.states;
+    let labels = p.labels;
+    let upper = (edge.source << labels) + edge.label;
+    ((upper << states) + edge.target) as u64
 }

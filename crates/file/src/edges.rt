@@ -6,7 +6,7 @@ use crate::edge::Edge;
 ghost use mathlib.Core.Path.{_≡_};
 ghost use mathlib.Core.List.{_++_};
 ghost use mathlib.Core.Option.{none};
-ghost use Prim.Native.Nat.{_+_, _*_, _/_, _≤_, _<_, _^_};
+ghost use Prim.Native.Nat.{_+_, _*_, _/_, _≤_, _<_};
 ghost use lib.Dec.{eqb};
 ghost use lib.ListN.{length, drop};
 ghost use Rattle.bits.specs.Bits.{putFields, Fit};
@@ -168,20 +168,8 @@ fn put_all(p: Profile, part: &mut [u8], bit: usize, edges: &[u8], e: usize)
     let mut place = bit;
     let mut i = 0;
     while i < e {
-        let edge = listed(edges, i);
-        bits::put(part, place, width, joined(p, edge));
+        crate::edge::put(p, part, place, listed(edges, i));
         place += width;
         i += 1;
     }
-}
-
-// An edge as the number that its field holds.
-fn joined(p: Profile, edge: Edge) -> u64
-    requires { ⌜ Usable p × (edge .source < 2 ^ p .states) × (edge .label < 2 ^ p .labels) × (edge .target < 2 ^ p .states) ⌝ }
-    ensures { λ r. ⌜ (r ≡ (edge .source * 2 ^ p .labels + edge .label) * 2 ^ p .states + edge .target) × (r < 2 ^ (p .states + p .labels + p .states)) ⌝ }
-{
-    let states = p.states;
-    let labels = p.labels;
-    let upper = (edge.source << labels) + edge.label;
-    ((upper << states) + edge.target) as u64
 }

@@ -1,7 +1,7 @@
 // The filter file: check, unpack and pack.
-pub mod edge; // one edge, read from a file
+pub mod edge; // one edge, read or written
 mod edges; // edges tested; runs of them read and written
-mod header; // the four numbers before the colours
+pub mod header; // the four numbers before the colours
 pub mod layout; // sizes and positions
 
 use edges::Verdict;
@@ -305,7 +305,7 @@ fn write(p: Profile, colours: &[u8], edges: &[u8], m: usize, start: usize, room:
 }
 
 // Zero bits to the end of the byte.
-fn fill(p: Profile, room: &mut [u8], n: usize, e: usize)
+pub fn fill(p: Profile, room: &mut [u8], n: usize, e: usize)
     requires { ⌜ Usable p × (n ≤ 256) × (e ≤ 65536) ⌝ }
     ensures { λ _. ⌜ now (room .exit) ≡ putField (now (room .entry)) (fileBits p n e) (fillBits p n e) 0 ⌝ }
 {

@@ -1,18 +1,18 @@
 -- Laws of text: a number's digits, and what is written into a room piece by piece.
 -- Assumes nothing.
 use mathlib.Core.Path.{_≡_, refl, sym, ap, ap₂, _∙_}
-use mathlib.Core.List.{List, [], _∷_, _++_, append-assoc}
+use mathlib.Core.List.{List, [], _∷_, _++_, append-nil, append-assoc}
 use Prim.Native.Nat.{ℕ, zero, suc, _+_, _*_, _-_, _/_, _%_, _^_, _≤_, _<_}
-use native.Mathlib.Nat.{add-assoc, pow-suc, pow-le-pow-right}
+use native.Mathlib.Nat.{add-assoc, add-zero, zero-add, pow-suc, pow-le-pow-right}
 use native.Mathlib.Decide.{decLt}
 use native.Mathlib.Numerals.{add-one}
 use native.Mathlib.Omega.{arith}
 use lib.Dec.{lit<}
-use lib.ListN.{length, take, drop, length-append}
-use lib.Seq.{paste, take-at, drop-at, drop-drop, length-take-le, take-length}
+use lib.ListN.{length, getD, take, drop, length-append}
+use lib.Seq.{paste, take-at, drop-at, drop-drop, length-take-le, take-length, take-suc}
 use borrow.Author.Tests.{lt-ltb, le-ltb}
 use Rattle.io.specs.Digits.{glyph, digits, Fewest}
-use Rattle.lines.specs.Text.{digitsOf, decimal, newline, numberLines, wrote}
+use Rattle.lines.specs.Text.{digitsOf, decimal, newline, ended, pairLine, numberLines, pairLines, wrote}
 
 -- ---- digits
 
@@ -61,6 +61,16 @@ decimal-is n k h f =
             let a : 10 ^ 20 ≤ 10 ^ (k - 1) = pow-le-pow-right {n = 10} (lit< tt) {i = 20} {j = k - 1} (omega arith) in
             absurd (omega (arith, f .2 (omega arith)))
 
+-- a number below 1000 has at most three digits
+pub three-digits : (n : ℕ) → n < 1000 → length (decimal n) ≤ 3
+unfolding decimal digitsOf
+three-digits n h = go (decLt n 10) (decLt (n / 10) 10)
+  where
+    go : Dec (n < 10) → Dec (n / 10 < 10) → length (digitsOf 20 n) ≤ 3
+    go (yes a) b = rw (lt-ltb n 10 a) (omega arith)
+    go (no a) (yes b) = rw (le-ltb n 10 (omega arith), lt-ltb (n / 10) 10 b) (omega arith)
+    go (no a) (no b) = rw (le-ltb n 10 (omega arith), le-ltb (n / 10) 10 (omega arith), lt-ltb (n / 10 / 10) 10 (omega arith)) (omega arith)
+
 -- ---- pieces
 
 -- a text written is as long as it is
@@ -87,20 +97,39 @@ both r₀ r₁ r₂ at e₁ e₂ a b h p q u v = (
   v ∙ ap (λ (e : ℕ). e + length b) q ∙ add-assoc at (length a) (length b) ∙ ap (λ (n : ℕ). at + n) (sym (length-append a b)),
 )
 
--- a number below 1000 has at most three digits
-pub three-digits : (n : ℕ) → n < 1000 → length (decimal n) ≤ 3
-unfolding decimal digitsOf
-three-digits n h = go (decLt n 10) (decLt (n / 10) 10)
-  where
-    go : Dec (n < 10) → Dec (n / 10 < 10) → length (digitsOf 20 n) ≤ 3
-    go (yes a) b = rw (lt-ltb n 10 a) (omega arith)
-    go (no a) (yes b) = rw (le-ltb n 10 (omega arith), lt-ltb (n / 10) 10 b) (omega arith)
-    go (no a) (no b) = rw (le-ltb n 10 (omega arith), le-ltb (n / 10) 10 (omega arith), lt-ltb (n / 10 / 10) 10 (omega arith)) (omega arith)
+-- the same from the room's beginning on
+pub both-front : (r₀ r₁ r₂ : List ℕ) (e₁ e₂ : ℕ) (a b : List ℕ) → r₁ ≡ wrote r₀ 0 a → e₁ ≡ length a → r₂ ≡ wrote r₁ e₁ b → e₂ ≡ e₁ + length b →
+    (r₂ ≡ wrote r₀ 0 (a ++ b)) × (e₂ ≡ length (a ++ b))
+both-front r₀ r₁ r₂ e₁ e₂ a b p q u v =
+    let done = both r₀ r₁ r₂ 0 e₁ e₂ a b (omega arith) p (q ∙ sym (zero-add (length a))) u v in
+    (done .0, done .1 ∙ zero-add (length (a ++ b)))
 
--- one number more
-pub lines-snoc : (ns : List ℕ) (n : ℕ) → numberLines (ns ++ (n ∷ [])) ≡ numberLines ns ++ (decimal n ++ newline)
+-- ---- lines
+
+-- the first numbers and one more
+take-more : (ns : List ℕ) (i : ℕ) → i < length ns → take (i + 1) ns ≡ take i ns ++ (getD ns i 0 ∷ [])
+take-more ns i h = ap (λ (k : ℕ). take k ns) (add-one i) ∙ take-suc ns i 0 h
+
+-- its line behind theirs
+lines-snoc : (ns : List ℕ) (n : ℕ) → numberLines (ns ++ (n ∷ [])) ≡ numberLines ns ++ ended n
 unfolding numberLines
-lines-snoc [] n = refl
-lines-snoc (m ∷ ns) n =
-    ap (λ (l : List ℕ). decimal m ++ (newline ++ l)) (lines-snoc ns n)
-    ∙ sym (append-assoc (decimal m) (newline ++ numberLines ns) (decimal n ++ newline))
+lines-snoc [] n = append-assoc (decimal n) newline []
+lines-snoc (m ∷ ns) n = ap (λ (l : List ℕ). ended m ++ l) (lines-snoc ns n) ∙ sym (append-assoc (ended m) (numberLines ns) (ended n))
+
+pub lines-more : (ns : List ℕ) (i : ℕ) → i < length ns → numberLines (take i ns) ++ ended (getD ns i 0) ≡ numberLines (take (i + 1) ns)
+lines-more ns i h = sym (ap numberLines (take-more ns i h) ∙ lines-snoc (take i ns) (getD ns i 0))
+
+-- one state's line behind those of the states before it
+pairs-snoc : (s : ℕ) (ks : List ℕ) (k : ℕ) → pairLines s (ks ++ (k ∷ [])) ≡ pairLines s ks ++ pairLine (s + length ks) k
+unfolding pairLines
+pairs-snoc s [] k = append-nil (pairLine s k) ∙ ap (λ (t : ℕ). pairLine t k) (sym (add-zero s))
+pairs-snoc s (m ∷ ks) k =
+    let next : suc s + length ks ≡ s + suc (length ks) = omega arith in
+    ap (λ (l : List ℕ). pairLine s m ++ l) (pairs-snoc (suc s) ks k ∙ ap (λ (t : ℕ). pairLines (suc s) ks ++ pairLine t k) next)
+    ∙ sym (append-assoc (pairLine s m) (pairLines (suc s) ks) (pairLine (s + suc (length ks)) k))
+
+pub pairs-more : (ks : List ℕ) (i : ℕ) → i < length ks → pairLines 0 (take i ks) ++ pairLine i (getD ks i 0) ≡ pairLines 0 (take (i + 1) ks)
+pairs-more ks i h =
+    let count : 0 + length (take i ks) ≡ i = zero-add _ ∙ length-take-le i ks (omega arith) in
+    sym
+    (ap (pairLines 0) (take-more ks i h) ∙ pairs-snoc 0 (take i ks) (getD ks i 0) ∙ ap (λ (s : ℕ). pairLines 0 (take i ks) ++ pairLine s (getD ks i 0)) count)

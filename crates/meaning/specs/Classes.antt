@@ -14,7 +14,7 @@ pub record Task : Type 0 where
   -- whether a state takes part
   pub live : ℕ → Bool
   pub colour : ℕ → ℕ
-  -- whether two states conflict, judged by given class names
+  -- whether two states conflict, the lower one first, judged by given class names
   pub conflict : List ℕ → ℕ → ℕ → Bool
   -- the group number of each member of a class, from which states are members and which of them conflict
   pub group : (ℕ → Bool) → (ℕ → ℕ → Bool) → List ℕ
@@ -37,7 +37,8 @@ parted n clash P c = any (λ t. eqb (at P t) c && any (λ s. eqb (at P s) c && c
 unfoldable pub first : ℕ → (ℕ → ℕ → Bool) → List ℕ → ℕ
 first n clash P = least (parted n clash P) n
 
--- The smallest group number that no earlier conflicting member of k has; G holds the groups of the states before k.
+-- The smallest group number that no earlier conflicting member of k has; G holds the groups of the states before k. Each of them
+-- is below k, so that k is free where no smaller number is.
 unfoldable pub free : (ℕ → Bool) → (ℕ → ℕ → Bool) → List ℕ → ℕ → ℕ
 free mem clash G k = least (λ g. not (any (λ t. mem t && (clash t k && eqb (at G t) g)) k)) k
 
@@ -58,8 +59,8 @@ unfoldable pub round : Task → List ℕ → ℕ → List ℕ
 round T P c = split (T .size) P c (T .group (λ s. eqb (at P s) c) (T .conflict P))
 
 -- The class that the next round takes.
-unfoldable pub place : Task → List ℕ → ℕ
-place T P = first (T .size) (T .conflict P) P
+unfoldable pub chosen : Task → List ℕ → ℕ
+chosen T P = first (T .size) (T .conflict P) P
 
 -- The record at the beginning, and after a round at class c.
 unfoldable pub begin : Task → Classes
@@ -72,7 +73,7 @@ cut T Q c = record { names = round T (Q .names) c; rounds = suc (Q .rounds) }
 -- size is enough.
 unfoldable pub run : ℕ → Task → Classes → Classes
 run zero T Q = Q
-run (suc f) T Q = elim (ltb (place T (Q .names)) (T .size)) [ true ↦ run f T (cut T Q (place T (Q .names))) | false ↦ Q ]
+run (suc f) T Q = elim (ltb (chosen T (Q .names)) (T .size)) [ true ↦ run f T (cut T Q (chosen T (Q .names))) | false ↦ Q ]
 
 unfoldable pub reduction : Task → Classes
 reduction T = run (T .size) T (begin T)

@@ -13,8 +13,8 @@ use Rattle.meaning.specs.Classes.{Task, initial, named, classes}
 use Rattle.meaning.specs.Reduction.{Fair, initial-in, initial-out}
 
 -- the colours below k that some state below n which takes part has
-unfoldable pub shown : (ℕ → Bool) → (ℕ → ℕ) → ℕ → ℕ → ℕ
-shown live colour n k = count (λ c. any (λ s. live s && eqb (colour s) c) n) k
+unfoldable pub occurring : (ℕ → Bool) → (ℕ → ℕ) → ℕ → ℕ → ℕ
+occurring live colour n k = count (λ c. any (λ s. live s && eqb (colour s) c) n) k
 
 -- the states below n that are the first of their colour
 unfoldable pub firsts : (ℕ → Bool) → (ℕ → ℕ) → ℕ → ℕ
@@ -44,12 +44,12 @@ module _ (b : Bool) (x : ℕ) (q : ℕ → Bool) where
       omega (arith, off k (omega arith), bit-hit b (q k) (eqb x k) e, ap (λ y. bit (b && not (q y))) e′))
       (λ e. omega (arith, on k (omega (arith, eqb-false x k e)), bit-miss b (q k) (eqb x k) e))
 
-pub shown-firsts : (live : ℕ → Bool) (colour : ℕ → ℕ) (k n : ℕ) → ((s : ℕ) → s < n → colour s < k) → shown live colour n k ≡ firsts live colour n
-unfolding shown firsts any count
-shown-firsts live colour k zero h = count-none k
-shown-firsts live colour k (suc n) h =
+pub occurring-firsts : (live : ℕ → Bool) (colour : ℕ → ℕ) (k n : ℕ) → ((s : ℕ) → s < n → colour s < k) → occurring live colour n k ≡ firsts live colour n
+unfolding occurring firsts any count
+occurring-firsts live colour k zero h = count-none k
+occurring-firsts live colour k (suc n) h =
     on (live n) (colour n) (λ c. any (λ s. live s && eqb (colour s) c) n) k (h n (omega arith))
-    ∙ ap (λ i. i + bit (live n && not (any (λ t. live t && eqb (colour t) (colour n)) n))) (shown-firsts live colour k n (λ s l. h s (omega arith)))
+    ∙ ap (λ i. i + bit (live n && not (any (λ t. live t && eqb (colour t) (colour n)) n))) (occurring-firsts live colour k n (λ s l. h s (omega arith)))
 
 -- the states that name a class at the beginning are those
 named-first : (T : Task) → Fair T → (s : ℕ) → s < T .size → named (initial T) s ≡ (T .live s && not (any (λ t. T .live t && eqb (T .colour t) (T .colour s)) s))
@@ -62,8 +62,8 @@ named-first T fair s h =
     (λ q. rw (q, l) (eq-eqb _ _ (least-is p (T .size) s h (and-intro l (eq-eqb (T .colour s) (T .colour s) refl)) (λ i k. any-none p s i k q)))))
     (λ l. rw l (ne-eqb (at (initial T) s) s (λ z. omega (arith, fair .small, initial-out T fair s h l))))
 
-pub classes-shown : (T : Task) → Fair T → (k : ℕ) → ((s : ℕ) → s < T .size → T .colour s < k) → classes (T .size) (initial T) ≡ shown (T .live) (T .colour) (T .size) k
+pub classes-occurring : (T : Task) → Fair T → (k : ℕ) → ((s : ℕ) → s < T .size → T .colour s < k) → classes (T .size) (initial T) ≡ occurring (T .live) (T .colour) (T .size) k
 unfolding classes firsts
-classes-shown T fair k h =
+classes-occurring T fair k h =
     count-cong (named (initial T)) _ (T .size) (λ s l. named-first T fair s l)
-    ∙ sym (shown-firsts (T .live) (T .colour) k (T .size) h)
+    ∙ sym (occurring-firsts (T .live) (T .colour) k (T .size) h)

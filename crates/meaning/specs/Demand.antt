@@ -1,4 +1,5 @@
--- The statements about the whole: what is accepted, reduced, is accepted, no longer, and traces the same. Assumes nothing.
+-- The statements about the whole: of a filter in order with at most 256 states, the reduced filter is in order, has no more states,
+-- labels and edges, and traces whatever the filter traces, with the same colours. Assumes nothing.
 use Prim.Native.Nat.{ℕ, zero, suc, _+_, _≤_, _<_}
 use mathlib.Core.Path.{_≡_, refl, sym, ap, _∙_, subst}
 use mathlib.Core.Bool.{Bool, true, false, _&&_, _||_}
@@ -10,15 +11,16 @@ use lib.ListN.{length}
 use borrow.Author.Tests.{eqb-true, eq-eqb, lt-ltb, ltb-true}
 use Rattle.meaning.specs.Search.{least, count, at}
 use Rattle.meaning.specs.Cases.{or-left, test, same², and-intro, and-left, and-right, no-both, or-right}
-use Rattle.meaning.specs.SearchLaws.{count-none, least-ok, length-tab}
-use Rattle.meaning.specs.Classes.{place, named, classes, number, reduction}
+use Rattle.meaning.specs.SearchLaws.{count-max, count-none, least-ok, length-tab}
+use Rattle.meaning.specs.Classes.{chosen, named, classes, number}
 use Rattle.meaning.specs.ClassesLaws.{groups-apart}
 use Rattle.meaning.specs.Reduction.{Fair, Good, reduction-kept, reduction-calm, reduction-bound}
 use Rattle.meaning.specs.Filter.{Edge, Filter, states, each, ascending, inside, inOrder}
-use Rattle.meaning.specs.Trace.{colour, edge, target, ridden, halted}
-use Rattle.meaning.specs.Reduced.{live, task, has, mapped, class-edge, edge′, merged, reduce, reduced, member, distinct}
+use Rattle.meaning.specs.Trace.{colour, edge, target, shown, stops}
+use Rattle.meaning.specs.Reduced.{live, task, has, mapped, class-edge, edge′, merged, reduce, reduced, nameOf, distinct}
+use Rattle.meaning.specs.Colours.{occurring, classes-occurring}
 use Rattle.meaning.specs.Listing.{find-listed, find-each, cells, listed-length, cells-mono, cells-on, each-listed, listed-ascends}
-use Rattle.meaning.specs.Traced.{Fits, opt, number-lt, member-is, In, edge-kept, traced}
+use Rattle.meaning.specs.Traced.{Fits, opt, number-lt, name-is, In, colour-kept, edge-kept, traced}
 
 pub fits : (F : Filter) → states F ≤ 256 → inOrder F ≡ true → Fits F
 unfolding inOrder inside edge
@@ -50,15 +52,15 @@ pub record Source (F : Filter) (P : List ℕ) (k y k′ : ℕ) : Type 0 where
   pub to : ℕ
   pub is-state : from < states F
   pub of-class : number P from ≡ k
-  pub at-class : at P from ≡ member (states F) P k
+  pub at-class : at P from ≡ nameOf (states F) P k
   pub has-edge : edge F from y ≡ some to
   pub to-class : number P to ≡ k′
 
-pub source : (F : Filter) → Fits F → (P : List ℕ) (k y k′ : ℕ) → k < classes (states F) P → edge′ F P k y ≡ some k′ → Source F P k y k′
+pub source : (F : Filter) → Fits F → (P : List ℕ) (k y k′ : ℕ) → k < classes (states F) P → edge′ (edge F) (states F) P k y ≡ some k′ → Source F P k y k′
 unfolding edge′ class-edge number
 source F f P k y k′ h e =
-    let c = member (states F) P k in
-    let m = member-is (states F) P k h in
+    let c = nameOf (states F) P k in
+    let m = name-is (states F) P k h in
     let p : ℕ → Bool = λ s. eqb (at P s) c && has (edge F s y) in
     let u = least p (states F) in
     let r = mapped-some P (edge F u y) k′ e in
@@ -104,9 +106,9 @@ merged-shorter F f P =
     let n = classes (states F) P in
     omega (
       arith,
-      listed-length (edge′ F P) n (F .labels),
+      listed-length (edge′ (edge F) (states F) P) n (F .labels),
       keyed-most P n (F .labels) (F .edges),
-      cells-mono (λ a b. has (edge′ F P a b)) (keyed P (F .edges)) n (F .labels) (λ a b k l e. opt (edge′ F P a b)
+      cells-mono (λ a b. has (edge′ (edge F) (states F) P a b)) (keyed P (F .edges)) n (F .labels) (λ a b k l e. opt (edge′ (edge F) (states F) P a b)
           (λ o. no-both e (rw o))
           (λ t o. let r = source F f P a b t k o in
           subst (λ (c : ℕ). keyed P (F .edges) c b ≡ true) (r .of-class) (keyed-find P (F .edges) (r .from) b (r .to) (r .has-edge)))),
@@ -135,7 +137,7 @@ module _ (F : Filter) (few : states F ≤ 256) (ok : inOrder F ≡ true) where
   good = reduction-kept (task F) fair .good
 
   -- no class has a conflicting pair
-  pub calm-end : states F ≤ place (task F) (reduce F .names)
+  pub calm-end : states F ≤ chosen (task F) (reduce F .names)
   unfolding reduce
   calm-end = reduction-calm (task F) fair
 
@@ -163,27 +165,31 @@ module _ (F : Filter) (few : states F ≤ 256) (ok : inOrder F ≡ true) where
       let begin = number-lt (states F) P (good .right) (F .start) (live-in (F .start) (fits F few ok .begins) start-live) in
       and-intro (size (number P (F .start)) begin)
       (and-intro
-      (each-listed (inside (states R) (F .labels)) (edge′ F P) k (F .labels) (λ a b t ha hb e.
+      (each-listed (inside (states R) (F .labels)) (edge′ (edge F) (states F) P) k (F .labels) (λ a b t ha hb e.
       let r = source F (fits F few ok) P a b t ha e in
-      let m = member-is (states F) P a ha in
+      let m = name-is (states F) P a ha in
       let ht : t < k = subst (λ (c : ℕ). c < k) (r .to-class) (number-lt (states F) P (good .right) (r .to)
       (onward (r .from) b (r .to) (record { state = r .is-state; seat = omega (arith, m .0, r .at-class) }) (r .has-edge))) in
       and-intro (size a ha) (and-intro (lt-ltb b (F .labels) hb) (size t ht))))
-      (listed-ascends (edge′ F P) k (F .labels)))
+      (listed-ascends (edge′ (edge F) (states F) P) k (F .labels)))
 
-  -- rounds + colours ≤ states of the reduced ≤ reached states ≤ states
-  pub reduced-bound : (reduce F .rounds + distinct F ≤ states (reduced F)) × (states (reduced F) ≤ count (live F) (states F))
+  -- rounds + distinct colours ≤ reduced states ≤ states that take part ≤ states
+  pub reduced-bound : (reduce F .rounds + distinct F ≤ states (reduced F)) × (states (reduced F) ≤ count (live F) (states F)) × (count (live F) (states F) ≤ states F)
   unfolding reduce distinct
-  reduced-bound = rw states-reduced (reduction-bound (task F) fair)
+  reduced-bound = let b = reduction-bound (task F) fair in (rw states-reduced (b .0), rw states-reduced (b .1), count-max (live F) (states F))
+
+  -- distinct colours are those that occur, whatever bounds them
+  pub distinct-occurring : (k : ℕ) → ((s : ℕ) → s < states F → colour F s < k) → distinct F ≡ occurring (live F) (colour F) (states F) k
+  unfolding distinct
+  distinct-occurring k h = classes-occurring (task F) fair k h
 
   pub reduced-edges : length (reduced F .edges) ≤ length (F .edges)
   unfolding reduced
   reduced-edges = merged-shorter F (fits F few ok) (reduce F .names)
 
   -- every sequence that the filter traces, the reduced one traces, with the same colours
-  pub reduced-traces : (ys : List ℕ) → halted (edge F) (F .start) ys ≡ none
-      → (halted (edge (reduced F)) (reduced F .start) ys ≡ none) × (ridden (edge (reduced F)) (colour (reduced F)) (reduced F .start) ys ≡ ridden (edge F) (colour F) (F .start) ys)
-  unfolding reduced merged
+  pub reduced-traces : (ys : List ℕ) → stops F ys ≡ none → (stops (reduced F) ys ≡ none) × (shown (reduced F) ys ≡ shown F ys)
+  unfolding reduced merged stops shown
   reduced-traces ys e = traced F (fits F few ok) (reduce F .names) good onward calm-end ys (F .start) (live-in (F .start) (fits F few ok .begins) start-live) e
 
   -- an edge stands where some member has it, and only there
@@ -197,6 +203,7 @@ module _ (F : Filter) (few : states F ≤ 256) (ok : inOrder F ≡ true) where
   unfolding reduced
   reduced-has s y t h l e = edge-kept F (fits F few ok) (reduce F .names) good onward calm-end s y t (live-in s h l) e
 
-  -- one class, one colour
-  pub reduced-colour : (s t : ℕ) → s < states F → t < states F → live F s ≡ true → live F t ≡ true → at (reduce F .names) s ≡ at (reduce F .names) t → colour F s ≡ colour F t
-  reduced-colour s t hs ht ls lt e = sym (good .hue s hs (good .all s hs ls)) ∙ ap (colour F) e ∙ good .hue t ht (good .all t ht lt)
+  -- the colour of a reduced state is that of the members
+  pub reduced-colour : (s : ℕ) → s < states F → live F s ≡ true → colour (reduced F) (number (reduce F .names) s) ≡ colour F s
+  unfolding reduced
+  reduced-colour s h l = colour-kept F (fits F few ok) (reduce F .names) good onward calm-end s (live-in s h l)

@@ -17,29 +17,34 @@ apart P (some a) none = false
 apart P (some a) (some b) = not (eqb (at P a) (at P b))
 
 -- Two states conflict when some label has an edge from each and the two targets are in different classes.
-unfoldable pub conflict : Filter → List ℕ → ℕ → ℕ → Bool
-conflict F P s t = any (λ y. apart P (edge F s y) (edge F t y)) (F .labels)
+-- `next` is the edge of a state at a label, m the number of labels.
+unfoldable pub conflict : (ℕ → ℕ → Option ℕ) → ℕ → List ℕ → ℕ → ℕ → Bool
+conflict next m P s t = any (λ y. apart P (next s y) (next t y)) m
 
 -- All states take part, "whether the start leads to them or not".
 unfoldable pub live : Filter → ℕ → Bool
 live F s = true
 
-abbrev pub task : Filter → Task
-task F = record {
-  size = states F;
-  live = live F;
-  colour = colour F;
-  conflict = conflict F;
-  group = λ mem clash. groups mem clash (states F);
+-- n states of which some take part, with edges and colours.
+abbrev pub taskOver : (ℕ → Bool) → (ℕ → ℕ → Option ℕ) → (ℕ → ℕ) → ℕ → ℕ → Task
+taskOver live next hue m n = record {
+  size = n;
+  live = live;
+  colour = hue;
+  conflict = conflict next m;
+  group = λ mem clash. groups mem clash n;
 }
+
+abbrev pub task : Filter → Task
+task F = taskOver (live F) (edge F) (colour F) (F .labels) (states F)
 
 -- The classes at the end, and the rounds made.
 unfoldable pub reduce : Filter → Classes
 reduce F = reduction (task F)
 
 -- The name of the class with number k.
-unfoldable pub member : ℕ → List ℕ → ℕ → ℕ
-member n P k = least (λ t. named P t && eqb (number P t) k) n
+unfoldable pub nameOf : ℕ → List ℕ → ℕ → ℕ
+nameOf n P k = least (λ t. named P t && eqb (number P t) k) n
 
 abbrev pub has : Option ℕ → Bool
 has none = false
@@ -49,13 +54,14 @@ unfoldable pub mapped : List ℕ → Option ℕ → Option ℕ
 mapped P none = none
 mapped P (some t) = some (number P t)
 
--- The edge of the class named c at label y: that of its first member that has one, led to the target's class.
-unfoldable pub class-edge : Filter → List ℕ → ℕ → ℕ → Option ℕ
-class-edge F P c y = mapped P (edge F (least (λ s. eqb (at P s) c && has (edge F s y)) (states F)) y)
+-- The edge of the class named c at label y: that of its first member that has one, led to the target's class. Where none has one
+-- the search gives n, which is no state and has no edge.
+unfoldable pub class-edge : (ℕ → ℕ → Option ℕ) → ℕ → List ℕ → ℕ → ℕ → Option ℕ
+class-edge next n P c y = mapped P (next (least (λ s. eqb (at P s) c && has (next s y)) n) y)
 
 -- The same of the class with number k. `reduced-edge` and `reduced-has` say that an edge stands exactly where some member has it.
-unfoldable pub edge′ : Filter → List ℕ → ℕ → ℕ → Option ℕ
-edge′ F P k y = class-edge F P (member (states F) P k) y
+unfoldable pub edge′ : (ℕ → ℕ → Option ℕ) → ℕ → List ℕ → ℕ → ℕ → Option ℕ
+edge′ next n P k y = class-edge next n P (nameOf n P k) y
 
 -- The edges of a function in file order: one edge, if there is one; those of state s with labels below y; those of n states.
 unfoldable pub cell : ℕ → ℕ → Option ℕ → List Edge
@@ -70,18 +76,26 @@ unfoldable pub listed : (ℕ → ℕ → Option ℕ) → ℕ → ℕ → List Ed
 listed next zero m = []
 listed next (suc n) m = listed next n m ++ row (next n) n m
 
--- One state a class; m is kept; the start is the start's class; the colour is that of the members.
-unfoldable pub merged : Filter → List ℕ → Filter
-merged F P = record {
-  colours = tab (classes (states F) P) (λ k. colour F (member (states F) P k));
-  labels = F .labels;
-  start = number P (F .start);
-  edges = listed (edge′ F P) (classes (states F) P) (F .labels);
+-- One state a class; m is kept; the start is the start's class; the colour is that of the members. Over any edges and colours of
+-- n states.
+abbrev pub mergedOver : (ℕ → ℕ → Option ℕ) → (ℕ → ℕ) → ℕ → ℕ → ℕ → List ℕ → Filter
+mergedOver next hue n m start P = record {
+  colours = tab (classes n P) (λ k. hue (nameOf n P k));
+  labels = m;
+  start = number P start;
+  edges = listed (edge′ next n P) (classes n P) m;
 }
+
+unfoldable pub merged : Filter → List ℕ → Filter
+merged F P = mergedOver (edge F) (colour F) (states F) (F .labels) (F .start) P
 
 unfoldable pub reduced : Filter → Filter
 reduced F = merged F (reduce F .names)
 
--- Distinct colours: as many as the classes at the beginning.
+-- The class list: the new number of each state.
+unfoldable pub classList : Filter → List ℕ
+classList F = tab (states F) (number (reduce F .names))
+
+-- Distinct colours: as many as the classes at the beginning. `distinct-occurring` says that they are the colours that occur.
 unfoldable pub distinct : Filter → ℕ
 distinct F = classes (states F) (initial (task F))

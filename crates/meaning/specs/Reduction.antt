@@ -9,24 +9,24 @@ use borrow.Author.Tests.{eqb-true, eq-eqb, ltb-true, ltb-false}
 use Rattle.meaning.specs.Search.{least, count, at}
 use Rattle.meaning.specs.Cases.{test, and-intro, and-left, and-right}
 use Rattle.meaning.specs.SearchLaws.{count-mono, least-ok, least-of, at-tab, count-max, count-step}
-use Rattle.meaning.specs.Classes.{Task, Classes, initial, parted, first, split, round, place, begin, cut, run, reduction, named, classes}
+use Rattle.meaning.specs.Classes.{Task, Classes, initial, parted, first, split, round, chosen, begin, cut, run, reduction, named, classes}
 use Rattle.meaning.specs.ClassesLaws.{Named, split-out, split-live, split-class, split-named, split-all, name-own, split-grows}
 
--- What a task must meet: some state takes part, and grouping parts each conflicting pair.
+-- What a task must meet: 65,535 is no state and so names no class, some state takes part, and grouping parts each conflicting pair.
 pub record Fair (T : Task) : Type 0 where
   pub small : T .size ≤ 65535
   pub somebody : (s : ℕ) × (s < T .size) × (T .live s ≡ true)
   pub proper : (mem : ℕ → Bool) (clash : ℕ → ℕ → Bool) (s t : ℕ) → s < t → t < T .size → mem s ≡ true → mem t ≡ true → clash s t ≡ true
       → at (T .group mem clash) s ≡ at (T .group mem clash) t → ⊥
 
--- What every round keeps.
+-- What every round keeps: names are right, the states that take part and no others are in a class, and a class has one colour.
 pub record Good (T : Task) (P : List ℕ) : Type 0 where
   pub right : Named (T .size) P
   pub all : (s : ℕ) → s < T .size → T .live s ≡ true → at P s < T .size
   pub out : (s : ℕ) → s < T .size → T .live s ≡ false → at P s ≡ 65535
   pub hue : (s : ℕ) → s < T .size → at P s < T .size → T .colour (at P s) ≡ T .colour s
 
--- names are good, and each round made a class or more
+-- names are good, and from the k classes of the beginning each round made a class or more
 pub record Kept (T : Task) (k : ℕ) (Q : Classes) : Type 0 where
   pub good : Good T (Q .names)
   pub bound : Q .rounds + k ≤ classes (T .size) (Q .names)
@@ -105,9 +105,9 @@ module _ (T : Task) (fair : Fair T) where
     round-grows = split-grows n (T .conflict P) P (good .right) c h e G
         (λ s t l k a b. fair .proper (λ s. eqb (at P s) c) (T .conflict P) s t l k (eq-eqb _ _ a) (eq-eqb _ _ b))
 
-  pub parted-place : (P : List ℕ) → place T P < T .size → parted (T .size) (T .conflict P) P (place T P) ≡ true
-  unfolding place first
-  parted-place P h = least-ok (parted n (T .conflict P) P) n h
+  pub parted-chosen : (P : List ℕ) → chosen T P < T .size → parted (T .size) (T .conflict P) P (chosen T P) ≡ true
+  unfolding chosen first
+  parted-chosen P h = least-ok (parted n (T .conflict P) P) n h
 
   pub classes-max : (P : List ℕ) → classes (T .size) P ≤ T .size
   unfolding classes
@@ -129,30 +129,30 @@ module _ (T : Task) (fair : Fair T) where
   -- ---- the run
 
   -- what every round keeps, the run keeps
-  pub run-keeps : (Inv : Classes → Type 0) → ((Q : Classes) → place T (Q .names) < T .size → Inv Q → Inv (cut T Q (place T (Q .names)))) → (f : ℕ) (Q : Classes) → Inv Q → Inv (run f T Q)
+  pub run-keeps : (Inv : Classes → Type 0) → ((Q : Classes) → chosen T (Q .names) < T .size → Inv Q → Inv (cut T Q (chosen T (Q .names)))) → (f : ℕ) (Q : Classes) → Inv Q → Inv (run f T Q)
   unfolding run
   run-keeps Inv step zero Q i = i
-  run-keeps Inv step (suc f) Q i = test (ltb (place T (Q .names)) n)
-      (λ q. rw (q, run) (run-keeps Inv step f (cut T Q (place T (Q .names))) (step Q (ltb-true _ _ q) i)))
+  run-keeps Inv step (suc f) Q i = test (ltb (chosen T (Q .names)) n)
+      (λ q. rw (q, run) (run-keeps Inv step f (cut T Q (chosen T (Q .names))) (step Q (ltb-true _ _ q) i)))
       (λ q. rw (q, run) i)
 
-  pub cut-kept : (k : ℕ) (Q : Classes) → place T (Q .names) < n → Kept T k Q → Kept T k (cut T Q (place T (Q .names)))
+  pub cut-kept : (k : ℕ) (Q : Classes) → chosen T (Q .names) < n → Kept T k Q → Kept T k (cut T Q (chosen T (Q .names)))
   unfolding cut
   cut-kept k Q h i =
-      let e = parted-place (Q .names) h in
+      let e = parted-chosen (Q .names) h in
       record {
-        good = round-good (Q .names) (i .good) (place T (Q .names)) h e;
-        bound = omega (arith, round-grows (Q .names) (i .good) (place T (Q .names)) h e, i .bound);
+        good = round-good (Q .names) (i .good) (chosen T (Q .names)) h e;
+        bound = omega (arith, round-grows (Q .names) (i .good) (chosen T (Q .names)) h e, i .bound);
       }
 
-  pub run-ends : (f : ℕ) (Q : Classes) → Good T (Q .names) → T .size < f + classes (T .size) (Q .names) → T .size ≤ place T (run f T Q .names)
+  pub run-ends : (f : ℕ) (Q : Classes) → Good T (Q .names) → T .size < f + classes (T .size) (Q .names) → T .size ≤ chosen T (run f T Q .names)
   unfolding run cut
   run-ends zero Q g h = absurd (omega (arith, classes-max (Q .names)))
-  run-ends (suc f) Q g h = test (ltb (place T (Q .names)) n)
+  run-ends (suc f) Q g h = test (ltb (chosen T (Q .names)) n)
       (λ q. let l = ltb-true _ _ q in
-      let e = parted-place (Q .names) l in
-      rw (q, run) (run-ends f (cut T Q (place T (Q .names))) (round-good (Q .names) g (place T (Q .names)) l e)
-      (omega (arith, round-grows (Q .names) g (place T (Q .names)) l e))))
+      let e = parted-chosen (Q .names) l in
+      rw (q, run) (run-ends f (cut T Q (chosen T (Q .names))) (round-good (Q .names) g (chosen T (Q .names)) l e)
+      (omega (arith, round-grows (Q .names) g (chosen T (Q .names)) l e))))
       (λ q. rw (q, run) (ltb-false _ _ q))
 
   -- ---- the whole reduction
@@ -162,7 +162,7 @@ module _ (T : Task) (fair : Fair T) where
   reduction-kept = run-keeps (Kept T (classes n (initial T))) (cut-kept _) n _ (record { good = initial-good; bound = omega arith })
 
   -- no class has a conflicting pair at the end
-  pub reduction-calm : T .size ≤ place T (reduction T .names)
+  pub reduction-calm : T .size ≤ chosen T (reduction T .names)
   unfolding reduction begin
   reduction-calm = run-ends n _ initial-good (omega (arith, classes-some (initial T) initial-good))
 

@@ -1,7 +1,7 @@
 -- Laws of the bounded searches. Assumes nothing.
 use Prim.Native.Nat.{ℕ, zero, suc, _+_, _≤_, _<_}
 use mathlib.Core.Path.{_≡_, refl, sym, ap, ap₂, _∙_}
-use mathlib.Core.Bool.{Bool, true, false}
+use mathlib.Core.Bool.{Bool, true, false, _||_}
 use mathlib.Core.List.{List, [], _∷_, _++_}
 use native.Mathlib.Nat.{not-suc-le-zero}
 use native.Mathlib.Omega.{arith}
@@ -114,6 +114,11 @@ bool-ext true b f g = sym (f refl)
 bool-ext false true f g = g refl
 bool-ext false false f g = refl
 
+pub any-cong : (p q : ℕ → Bool) (n : ℕ) → ((i : ℕ) → i < n → p i ≡ q i) → any p n ≡ any q n
+unfolding any
+any-cong p q zero h = refl
+any-cong p q (suc n) h = ap₂ _||_ (h n (omega arith)) (any-cong p q n (λ i l. h i (omega arith)))
+
 pub least-cong : (p q : ℕ → Bool) (n : ℕ) → ((i : ℕ) → i < n → p i ≡ q i) → least p n ≡ least q n
 unfolding least
 least-cong p q zero h = refl
@@ -172,3 +177,19 @@ pub count-cong : (p q : ℕ → Bool) (n : ℕ) → ((i : ℕ) → i < n → p i
 unfolding count
 count-cong p q zero h = refl
 count-cong p q (suc n) h = ap₂ (λ i j. i + j) (count-cong p q n (λ i l. h i (omega arith))) (ap bit (h n (omega arith)))
+
+-- for a loop that counts upward: its invariant is `k ≡ count p i`
+pub count-hit : (p : ℕ → Bool) (i : ℕ) → p i ≡ true → count p (i + 1) ≡ count p i + 1
+unfolding count
+count-hit p i h = rw (add-one i, h)
+
+pub count-miss : (p : ℕ → Bool) (i : ℕ) → p i ≡ false → count p (i + 1) ≡ count p i
+unfolding count
+count-miss p i h = rw (add-one i, h) (omega arith)
+
+-- an entry of the front of a list is the list's
+pub at-take : (xs : List ℕ) (n i : ℕ) → i < n → at (take n xs) i ≡ at xs i
+at-take xs zero i h = absurd (omega arith)
+at-take [] (suc n) i h = refl
+at-take (x ∷ xs) (suc n) zero h = refl
+at-take (x ∷ xs) (suc n) (suc i) h = at-take xs n i (omega arith)

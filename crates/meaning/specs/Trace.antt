@@ -18,6 +18,7 @@ target (e ∷ es) s y = pick (eqb (e .source) s && eqb (e .label) y) (some (e .t
 unfoldable pub edge : Filter → ℕ → ℕ → Option ℕ
 edge F s y = target (F .edges) s y
 
+-- The colour of a state; 0 for what is no state, which no ride comes to.
 unfoldable pub colour : Filter → ℕ → ℕ
 colour F s = getD (F .colours) s 0
 

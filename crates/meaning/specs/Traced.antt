@@ -12,12 +12,12 @@ use Rattle.meaning.specs.Search.{least, count, at}
 use Rattle.meaning.specs.Cases.{test, and-intro, and-left, and-right, no-both}
 use Rattle.meaning.specs.SearchLaws.{any-none, least-of, at-tab, count-step}
 use Rattle.meaning.specs.TraceLaws.{ridden-on, halted-on, halted-stop}
-use Rattle.meaning.specs.Classes.{place, named, classes, number}
+use Rattle.meaning.specs.Classes.{chosen, named, classes, number}
 use Rattle.meaning.specs.ClassesLaws.{Named, calm}
 use Rattle.meaning.specs.Reduction.{Good}
 use Rattle.meaning.specs.Filter.{Filter, states}
 use Rattle.meaning.specs.Trace.{colour, edge, later, ridden, halted}
-use Rattle.meaning.specs.Reduced.{task, apart, conflict, has, member, mapped, class-edge, edge′, merged, reduced}
+use Rattle.meaning.specs.Reduced.{task, apart, conflict, has, nameOf, mapped, class-edge, edge′, merged}
 use Rattle.meaning.specs.Listing.{find-listed}
 
 -- ---- numbers of classes
@@ -45,9 +45,9 @@ module _ (n : ℕ) (P : List ℕ) (g : Named n P) where
       (λ r. omega (arith, ltb-false (at P s) (at P t) q, ltb-false (at P t) (at P s) r)))
 
   -- the state that stands for a class is the class's name
-  pub member-name : (s : ℕ) → In n P s → member n P (number P s) ≡ at P s
-  unfolding member number
-  member-name s h =
+  pub name-of : (s : ℕ) → In n P s → nameOf n P (number P s) ≡ at P s
+  unfolding nameOf number
+  name-of s h =
       let k = number P s in
       let own = g .own s (h .state) (h .seat) in
       let same : number P (at P s) ≡ k = number-own s own in
@@ -74,9 +74,9 @@ nth p (suc n) k h = test (ltb k (count p n))
 
 module _ (n : ℕ) (P : List ℕ) (k : ℕ) (h : k < classes n P) where
   -- the name with number k
-  pub member-is : (member n P k < n) × (number P (member n P k) ≡ k) × (at P (member n P k) ≡ member n P k)
-  unfolding member classes number
-  member-is =
+  pub name-is : (nameOf n P k < n) × (number P (nameOf n P k) ≡ k) × (at P (nameOf n P k) ≡ nameOf n P k)
+  unfolding nameOf classes number
+  name-is =
       let r = nth (named P) n k h in
       let t = r .0 in
       let num : number P t ≡ k = ap (count (named P)) (eqb-true (at P t) t (r .2)) ∙ r .3 in
@@ -86,6 +86,7 @@ module _ (n : ℕ) (P : List ℕ) (k : ℕ) (h : k < classes n P) where
 
 -- ---- a filter and classes with no conflicting pair
 
+-- The start and the ends of the edges are states, and labels are below m.
 pub record Fits (F : Filter) : Type 0 where
   pub few : states F ≤ 256
   pub begins : F .start < states F
@@ -107,12 +108,12 @@ stuck e = let z : _≡_ {A = ℕ} 0 1 = cc in omega arith
 
 module _ (F : Filter) (fits : Fits F) (P : List ℕ) (g : Good (task F) P)
     (leads : (s y t : ℕ) → In (states F) P s → edge F s y ≡ some t → In (states F) P t)
-    (still : states F ≤ place (task F) P) where
+    (still : states F ≤ chosen (task F) P) where
   -- the edge of a class is that of each of its members that has one
   agree : (s t y a b : ℕ) → s < t → In (states F) P t → at P s ≡ at P t → edge F s y ≡ some a → edge F t y ≡ some b → at P a ≡ at P b
-  unfolding conflict apart place
+  unfolding conflict apart chosen
   agree s t y a b l h e ea eb =
-      let c = calm (states F) (conflict F P) P still s t l (h .state) (h .seat) e in
+      let c = calm (states F) (conflict (edge F) (F .labels) P) P still s t l (h .state) (h .seat) e in
       let q = any-none (λ y. apart P (edge F s y) (edge F t y)) (F .labels) y (fits .within t y b eb .1) c in
       eqb-true (at P a) (at P b) (not-false _ (rw (ea, eb) at q))
 
@@ -121,12 +122,12 @@ module _ (F : Filter) (fits : Fits F) (P : List ℕ) (g : Good (task F) P)
       (λ q. let q′ = eqb-true s t q in ap (at P) (some-inj (sym ea ∙ ap (λ u. edge F u y) q′ ∙ eb)))
       (λ q. agree s t y a b (omega (arith, eqb-false s t q)) h e ea eb)
 
-  colour-kept : (s : ℕ) → In (states F) P s → colour (merged F P) (number P s) ≡ colour F s
+  pub colour-kept : (s : ℕ) → In (states F) P s → colour (merged F P) (number P s) ≡ colour F s
   unfolding merged colour
   colour-kept s h =
       let n = states F in
       at-tab (classes n P) _ (number P s) (number-lt n P (g .right) s h)
-      ∙ ap (colour F) (member-name n P (g .right) s h) ∙ g .hue s (h .state) (h .seat)
+      ∙ ap (colour F) (name-of n P (g .right) s h) ∙ g .hue s (h .state) (h .seat)
 
   pub edge-kept : (s y t : ℕ) → In (states F) P s → edge F s y ≡ some t → edge (merged F P) (number P s) y ≡ some (number P t)
   unfolding merged edge edge′ class-edge mapped number
@@ -138,8 +139,8 @@ module _ (F : Filter) (fits : Fits F) (P : List ℕ) (g : Good (task F) P)
       let r = least-of test′ n s (h .state) (and-intro (eq-eqb (at P s) (at P s) refl) (rw e)) in
       let cls : at P u ≡ at P s = eqb-true (at P u) (at P s) (and-left (eqb (at P u) (at P s)) (has (edge F u y)) (r .1)) in
       let u-has : has (edge F u y) ≡ true = and-right (eqb (at P u) (at P s)) (has (edge F u y)) (r .1) in
-      find-listed k y (edge′ F P) (classes n P) (F .labels) (number-lt n P (g .right) s h) (fits .within s y t e .1)
-      ∙ ap (λ c. class-edge F P c y) (member-name n P (g .right) s h)
+      find-listed k y (edge′ (edge F) (states F) P) (classes n P) (F .labels) (number-lt n P (g .right) s h) (fits .within s y t e .1)
+      ∙ ap (λ c. class-edge (edge F) (states F) P c y) (name-of n P (g .right) s h)
       ∙ opt (edge F u y)
       (λ o. no-both {b = has (edge F u y)} u-has (rw o))
       (λ t′ o. ap (mapped P) o ∙ ap some (ap (count (named P)) (class-of u s y t′ t (r .0) h cls o e)))

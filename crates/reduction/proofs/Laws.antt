@@ -13,14 +13,14 @@ use borrow.Author.Tests.{lt-ltb, le-ltb, eq-eqb, ne-eqb, ltb-true, ltb-false, eq
 use Rattle.meaning.specs.Pick.{pick}
 use Rattle.meaning.specs.Cases.{test, no-both, and-intro, and-left, and-right}
 use Rattle.meaning.specs.Search.{any, least, bit, tab, at}
-use Rattle.meaning.specs.SearchLaws.{any-intro, any-elim, any-none, least-is, least-ok, least-none, least-empty, least-max, least-cong, tab-cong, fill}
+use Rattle.meaning.specs.SearchLaws.{any-intro, any-elim, any-none, least-is, least-ok, least-none, least-empty, least-max, least-cong, tab-cong, fill, at-take, any-cong}
 use Rattle.meaning.specs.Classes.{parted, first, free, groups, split}
 use Rattle.meaning.specs.ClassesLaws.{pair}
-use Rattle.meaning.specs.Reduced.{apart}
+use Rattle.meaning.specs.Reduced.{apart, conflict}
 use Rattle.table.specs.Table.{look}
 use Rattle.table.proofs.Laws.{look-here}
 use Rattle.reduction.specs.Rounds.{twin, clash, against, opposed, foundOf, taken, group, renamed, rounded}
-use Rattle.reduction.specs.declared.Found.the-variants.{Pair, Nothing}
+use Rattle.reduction.specs.declared.rounds.Found.the-variants.{Pair, Nothing}
 
 -- ---- tests
 
@@ -72,11 +72,11 @@ module _ (P T : List ℕ) (a b y : ℕ) (ha : a < 256) (hb : b < 256) (hy : y < 
 module _ (T : List ℕ) (m : ℕ) (P : List ℕ) (a b : ℕ) where
   -- all labels are tried and none parts the two
   pub clash-calm : (y : ℕ) → any (λ x. apart P (look T a x) (look T b x)) y ≡ false → m ≤ y → clash T m P a b ≡ false
-  unfolding clash
+  unfolding conflict
   clash-calm y h l = any-empty _ m (λ x k. any-none _ y x (omega arith) h)
 
   pub clash-here : (y : ℕ) → y < m → apart P (look T a y) (look T b y) ≡ true → clash T m P a b ≡ true
-  unfolding clash
+  unfolding conflict
   clash-here y l h = any-intro (λ x. apart P (look T a x) (look T b x)) m y l h
 
 -- ---- the search of a class
@@ -284,17 +284,6 @@ front-more f xs i v r l e = record { long = length-set xs i v ∙ r .long; front
 
 pub front-all : (f : ℕ → ℕ) (xs : List ℕ) (i n : ℕ) → Front f xs i → i ≡ n → take n xs ≡ tab n f
 front-all f xs i n r e = subst (λ (k : ℕ). take k xs ≡ tab k f) e (r .front)
-
-pub at-take : (xs : List ℕ) (n i : ℕ) → i < n → at (take n xs) i ≡ at xs i
-at-take xs zero i h = absurd (omega arith)
-at-take [] (suc n) i h = refl
-at-take (x ∷ xs) (suc n) zero h = refl
-at-take (x ∷ xs) (suc n) (suc i) h = at-take xs n i (omega arith)
-
-pub any-cong : (p q : ℕ → Bool) (n : ℕ) → ((i : ℕ) → i < n → p i ≡ q i) → any p n ≡ any q n
-unfolding any
-any-cong p q zero h = refl
-any-cong p q (suc n) h = ap₂ _||_ (h n (omega arith)) (any-cong p q n (λ i l. h i (omega arith)))
 
 -- ---- groups
 

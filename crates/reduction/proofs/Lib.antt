@@ -1,2 +1,8 @@
+-- Laws that the proofs of the code use.
 pub mod Laws
 pub mod Run
+pub mod Folding
+pub mod Calls
+-- Theorems: what is written is accepted and not longer; the contract has one outcome.
+pub mod Accepted
+pub mod Unique

@@ -10,14 +10,13 @@ use lib.Dec.{eqb}
 use lib.ListN.{take}
 use borrow.Author.Tests.{le-ltb, lt-ltb}
 use Rattle.meaning.specs.Search.{least, tab, at}
-use Rattle.meaning.specs.SearchLaws.{least-cong, tab-cong}
-use Rattle.meaning.specs.Classes.{Task, Classes, initial, parted, first, free, groups, split, round, place, begin, cut, run, reduction}
+use Rattle.meaning.specs.SearchLaws.{least-cong, tab-cong, count-cong, at-take, any-cong}
+use Rattle.meaning.specs.Classes.{Task, Classes, initial, parted, first, free, groups, split, round, chosen, begin, cut, run, reduction, named, classes}
 use Rattle.meaning.specs.ClassesLaws.{groups-apart}
-use Rattle.meaning.specs.Reduced.{apart}
+use Rattle.meaning.specs.Reduced.{apart, conflict}
 use Rattle.meaning.specs.Reduction.{Fair, Kept, initial-good, cut-kept, classes-some, classes-max}
 use Rattle.table.specs.Table.{look}
 use Rattle.reduction.specs.Rounds.{twin, clash, rounded, taskOf}
-use Rattle.reduction.proofs.Laws.{at-take, any-cong}
 
 -- ---- only the names of states count
 
@@ -58,6 +57,10 @@ module _ (n : ℕ) (clashes : ℕ → ℕ → Bool) (P : List ℕ) where
   unfolding rounded
   rounded-front c = ap (split n P c) (groups-front c n (omega arith)) ∙ split-front c _
 
+pub classes-front : (n : ℕ) (P : List ℕ) → classes n P ≡ classes n (take n P)
+unfolding classes
+classes-front n P = count-cong (named P) (named (take n P)) n (λ s h. ap (λ (k : ℕ). eqb k s) (sym (at-take P n s h)))
+
 -- names of targets are names of states
 module _ (table : List ℕ) (n : ℕ) (inside : (s y t : ℕ) → look table s y ≡ some t → t < n) (P : List ℕ) where
   apart-front : (o q : Option ℕ) → ((t : ℕ) → o ≡ some t → t < n) → ((t : ℕ) → q ≡ some t → t < n) → apart P o q ≡ apart (take n P) o q
@@ -67,7 +70,7 @@ module _ (table : List ℕ) (n : ℕ) (inside : (s y t : ℕ) → look table s y
   apart-front (some a) (some b) h k = ap₂ (λ (x y : ℕ). not (eqb x y)) (sym (at-take P n a (h a refl))) (sym (at-take P n b (k b refl)))
 
   clash-front : (m : ℕ) → clash table m P ≡ clash table m (take n P)
-  unfolding clash
+  unfolding conflict
   clash-front m = fun-ext λ a. fun-ext λ b. any-cong _ _ m (λ y h. apart-front (look table a y) (look table b y) (inside a y) (inside b y))
 
 -- ---- the run
@@ -90,9 +93,9 @@ module _ (table hues : List ℕ) (m n : ℕ) where
     fair : Fair T
     fair = record { small = omega arith; somebody = (0, some-state, refl); proper = λ mem clashes. groups-apart mem clashes n }
 
-    pub place-front : (names : List ℕ) → first n (clash table m names) names ≡ place T (take n names)
-    unfolding place
-    place-front names = ap (λ (f : ℕ → ℕ → Bool). first n f names) (clash-front table n inside names m) ∙ first-front n (clash table m (take n names)) names
+    pub chosen-front : (names : List ℕ) → first n (clash table m names) names ≡ chosen T (take n names)
+    unfolding chosen
+    chosen-front names = ap (λ (f : ℕ → ℕ → Bool). first n f names) (clash-front table n inside names m) ∙ first-front n (clash table m (take n names)) names
 
     round-front : (names : List ℕ) (c : ℕ) → rounded n (clash table m names) names c ≡ round T (take n names) c
     unfolding rounded round
@@ -102,6 +105,9 @@ module _ (table hues : List ℕ) (m n : ℕ) where
     initial-twins : initial T ≡ tab n (twin hues n)
     unfolding initial twin
     initial-twins = refl
+
+    pub classes-begin : (names : List ℕ) → take n names ≡ tab n (twin hues n) → classes n names ≡ classes n (initial T)
+    classes-begin names h = classes-front n names ∙ ap (classes n) (h ∙ sym initial-twins)
 
     pub running-begins : (names : List ℕ) (rounds : ℕ) → take n names ≡ tab n (twin hues n) → rounds ≡ 0 → Running names rounds
     unfolding reduction begin
@@ -124,13 +130,13 @@ module _ (table hues : List ℕ) (m n : ℕ) where
     unfolding cut run
     running-on names next rounds more c r e l h one = subst (Running next) (sym one) (go (r .rest) (r .counted) (r .goes))
       where
-        here : c ≡ place T (take n names)
-        here = e ∙ place-front names
+        here : c ≡ chosen T (take n names)
+        here = e ∙ chosen-front names
 
-        after : take n next ≡ round T (take n names) (place T (take n names))
+        after : take n next ≡ round T (take n names) (chosen T (take n names))
         after = h ∙ round-front names c ∙ ap (round T (take n names)) here
 
-        cutting : cut T (now names rounds) (place T (take n names)) ≡ now next (rounds + 1)
+        cutting : cut T (now names rounds) (chosen T (take n names)) ≡ now next (rounds + 1)
         cutting = ap₂ {C = Classes} (λ (P : List ℕ) (k : ℕ). record { names = P; rounds = k }) (sym after) (sym (add-one rounds))
 
         go : (f : ℕ) → rounds + f ≡ n → reduction T ≡ run f T (now names rounds) → Running next (rounds + 1)
@@ -143,7 +149,7 @@ module _ (table hues : List ℕ) (m n : ℕ) where
         }
           where
             turn : (f : ℕ) → run (suc f) T (now names rounds) ≡ run f T (now next (rounds + 1))
-            turn f = let q : place T (take n names) < n = omega (arith, here) in rw (run, lt-ltb _ _ q, cutting)
+            turn f = let q : chosen T (take n names) < n = omega (arith, here) in rw (run, lt-ltb _ _ q, cutting)
 
     pub running-ends : (names : List ℕ) (rounds c : ℕ) → Running names rounds → c ≡ first n (clash table m names) names → n ≤ c
         → reduction T ≡ now names rounds
@@ -152,4 +158,4 @@ module _ (table hues : List ℕ) (m n : ℕ) where
       where
         go : (f : ℕ) → run f T (now names rounds) ≡ now names rounds
         go zero = refl
-        go (suc f) = let q : n ≤ place T (take n names) = omega (arith, e ∙ place-front names) in rw (run, le-ltb _ _ q)
+        go (suc f) = let q : n ≤ chosen T (take n names) = omega (arith, e ∙ chosen-front names) in rw (run, le-ltb _ _ q)

@@ -1,24 +1,24 @@
 -- The words of a round as the code has them: edges looked up in the table, class names and groups in lists that may be longer than
--- the states are many. Assumes nothing.
+-- n. Assumes nothing.
 use Prim.Native.Nat.{ℕ}
 use mathlib.Core.Bool.{Bool, true, false, not, _&&_}
 use mathlib.Core.List.{List}
 use lib.Dec.{eqb, ltb}
 use Rattle.meaning.specs.Pick.{pick}
-use Rattle.meaning.specs.Search.{any, least, bit, at}
+use Rattle.meaning.specs.Search.{any, least, at}
 use Rattle.meaning.specs.Classes.{Task, groups, split}
-use Rattle.meaning.specs.Reduced.{apart}
+use Rattle.meaning.specs.Reduced.{conflict, taskOver}
 use Rattle.table.specs.Table.{look}
-use Rattle.reduction.specs.declared.Found.{Found}
-use Rattle.reduction.specs.declared.Found.the-variants.{Pair, Nothing}
+use Rattle.reduction.specs.declared.rounds.Found.{Found}
+use Rattle.reduction.specs.declared.rounds.Found.the-variants.{Pair, Nothing}
 
 -- The smallest state below n of the colour of s.
 unfoldable pub twin : List ℕ → ℕ → ℕ → ℕ
 twin hues n s = least (λ t. eqb (at hues t) (at hues s)) n
 
 -- Two states conflict.
-unfoldable pub clash : List ℕ → ℕ → List ℕ → ℕ → ℕ → Bool
-clash table m P a b = any (λ y. apart P (look table a y) (look table b y)) m
+abbrev pub clash : List ℕ → ℕ → List ℕ → ℕ → ℕ → Bool
+clash table m P a b = conflict (look table) m P a b
 
 -- b is a later member of class c that conflicts with a; a is a member that has such a later one.
 unfoldable pub against : (ℕ → ℕ → Bool) → List ℕ → ℕ → ℕ → ℕ → Bool
@@ -35,9 +35,6 @@ foundOf n clash P c = let a = least (opposed n clash P c) n in pick (ltb a n) (P
 unfoldable pub taken : (ℕ → ℕ → Bool) → List ℕ → List ℕ → ℕ → ℕ → ℕ → ℕ → Bool
 taken clash P G c s g t = any (λ u. eqb (at P u) c && (clash u s && eqb (at G u) g)) t
 
-abbrev pub mark : Bool → ℕ
-mark b = bit b
-
 -- The group of s: 0 where it is no member, and else the smallest that is not taken.
 unfoldable pub group : (ℕ → ℕ → Bool) → List ℕ → ℕ → List ℕ → ℕ → ℕ
 group clash P c G s = elim (eqb (at P s) c) [ true ↦ least (λ g. not (taken clash P G c s g s)) s | false ↦ 0 ]
@@ -52,10 +49,4 @@ rounded n clash P c = split n P c (groups (λ s. eqb (at P s) c) clash n)
 
 -- What is reduced: n states, all taking part, with colours and a table of edges.
 abbrev pub taskOf : List ℕ → List ℕ → ℕ → ℕ → Task
-taskOf table hues m n = record {
-  size = n;
-  live = λ s. true;
-  colour = at hues;
-  conflict = clash table m;
-  group = λ mem clashes. groups mem clashes n;
-}
+taskOf table hues m n = taskOver (λ s. true) (look table) (at hues) m n

@@ -1,32 +1,73 @@
-// The classes of a filter's states, split round by round until no class has a conflicting pair.
+// Reducing a filter file.
+mod rounds; // classes split round by round
+
+use file::Checked;
+use file::Kind;
+use file::Reading;
+use file::Refusal;
 ghost use mathlib.Core.Path.{_≡_};
-ghost use Prim.Native.Nat.{ℕ, _+_, _<_, _≤_};
-ghost use mathlib.Core.Option.{some};
-ghost use lib.Dec.{eqb};
-ghost use lib.ListN.{length, getD, take, replicate};
-ghost use Rattle.meaning.specs.Search.{least, tab, at};
-ghost use Rattle.meaning.specs.Classes.{first, groups, reduction};
-ghost use Rattle.meaning.specs.Reduced.{apart};
-ghost use Rattle.table.specs.Table.{look};
-ghost use Rattle.reduction.specs.Rounds.{twin, clash, foundOf, taken, mark, group, renamed, rounded, taskOf};
+ghost use mathlib.Core.List.{_∷_, []};
+ghost use Prim.Native.Nat.{_≤_};
+ghost use lib.ListN.{length};
+ghost use Rattle.meaning.specs.Reduced.{reduced, classList};
+ghost use Rattle.file.specs.Layout.{large, written};
+ghost use Rattle.file.specs.Contents.{filterIn};
+ghost use Rattle.file.specs.Answers.{accepted, readingOutcome, checkedOutcome};
+ghost use Rattle.file.specs.Refusals.{onward, checkOf, laid};
+ghost use Rattle.reduction.specs.Answers.{countsOutcome, reducedOutcome};
+ghost use Rattle.reduction.specs.Reducing.{countsOf};
+ghost use Rattle.reduction.specs.Promise.{ReducePromise};
 
-// The name of each state's class, its smallest state, and the rounds made.
-struct Partition {
-    names: [u16; 256],
-    rounds: u16,
+// Of a reduced filter: its states, its distinct colours, the rounds made, and its file's length in bytes.
+pub struct Counts {
+    pub states: usize,
+    pub colours: usize,
+    pub rounds: usize,
+    pub length: usize,
 }
 
-// What the search of a class finds: a conflicting pair, or none.
-enum Found {
-    Pair(usize, usize),
-    Nothing,
+pub enum Reduced {
+    Accepted(Counts),
+    Refused(Refusal),
 }
 
-// A fresh set of names.
-fn fresh() -> [u16; 256]
-    ensures { λ r. ⌜ (r ≡ replicate 256 65535) × (length r ≡ 256) ⌝ }
+// Writes the file of the reduced filter, and the new number of each state.
+pub fn reduce(file: &[u8], answer: &mut [u8], classes: &mut [u16]) -> Reduced
+    ensures { λ r. ⌜ ReducePromise large (now (file .entry)) (now (answer .entry)) (now (classes .entry)) r (now (answer .exit)) (now (classes .exit)) ⌝ }
 {
-    [65535; 256]
+    let checked = file::check(file);
+    let Checked::Accepted(reading) = checked else {
+        return passed_on(checked);
+    };
+    // A reduced file is never longer than its original, so this is decided before any reducing.
+    if answer.len() < file.len() {
+        return refused(Kind::AnswerRoom);
+    }
+    if classes.len() < reading.states {
+        return refused(Kind::ClassRoom);
+    }
+    Reduced::Accepted(fold(file, reading, answer, classes))
+}
+
+// A check's refusal as reduce's own.
+fn passed_on(answer: Checked) -> Reduced
+    ensures { λ r. ⌜ reducedOutcome r ≡ onward (checkedOutcome answer) (accepted (0 ∷ 0 ∷ 0 ∷ 0 ∷ [])) ⌝ }
+{
+    match answer {
+        Checked::Accepted(_) => Reduced::Accepted(Counts {
+            states: 0,
+            colours: 0,
+            rounds: 0,
+            length: 0,
+        }),
+        Checked::Refused(why) => Reduced::Refused(why),
+    }
+}
+
+fn refused(kind: Kind) -> Reduced
+    ensures { λ r. ⌜ r ≡ Reduced.Refused (record { kind = kind; place = 0 }) ⌝ }
+{
+    Reduced::Refused(Refusal { kind, place: 0 })
 }
 
 fn wide(x: u16) -> usize
@@ -35,240 +76,23 @@ fn wide(x: u16) -> usize
     x as usize
 }
 
-// The smallest state of the colour of s.
-fn first_like(colours: &[u8; 256], s: usize) -> u16
-    requires { ⌜ (s < 256) × (length (now colours) ≡ 256) ⌝ }
-    ensures { λ r. ⌜ ((n : ℕ) → s < n → r ≡ twin (now (colours .entry)) n s) ⌝ }
+// Reduces a file that was checked, into rooms that are long enough.
+fn fold(file: &[u8], reading: Reading, answer: &mut [u8], classes: &mut [u16]) -> Counts
+    requires { ⌜ (checkOf large (now file) ≡ readingOutcome reading) × (length (now file) ≤ length (now answer)) × (reading .states ≤ length (now classes)) ⌝ }
+    ensures counts { λ r. ⌜ countsOutcome r ≡ accepted (countsOf large (filterIn large (now (file .entry)))) ⌝ }
+    ensures answer { λ r. ⌜ now (answer .exit) ≡ laid (written large (reduced (filterIn large (now (file .entry))))) (now (answer .entry)) ⌝ }
+    ensures classes { λ r. ⌜ now (classes .exit) ≡ laid (classList (filterIn large (now (file .entry)))) (now (classes .entry)) ⌝ }
 {
-    let mut t: usize = 0;
-    while t < s {
-        if colours[t] == colours[s] {
-            return t as u16;
-        }
-        t += 1;
+    let table = table::table_of(file, reading);
+    let colours = table::colours_of(file, reading);
+    let ending = rounds::settled(&table, &colours, reading.labels, reading.states);
+    let last = ending.last;
+    let names = last.names;
+    let made = merging::merged(table, &colours, names, reading, answer, classes);
+    Counts {
+        states: made.states,
+        colours: ending.colours,
+        rounds: wide(last.rounds),
+        length: made.length,
     }
-    t as u16
-}
-
-// All states of one colour form one class.
-fn initial(colours: &[u8; 256], n: usize) -> Partition
-    requires { ⌜ (n ≤ 256) × (length (now colours) ≡ 256) ⌝ }
-    ensures { λ r. ⌜ (take n (r .names) ≡ tab n (twin (now (colours .entry)) n)) × (r .rounds ≡ 0) ⌝ }
-{
-    let mut names = fresh();
-    let mut s = 0;
-    while s < n {
-        names[s] = first_like(colours, s);
-        s += 1;
-    }
-    Partition { names, rounds: 0 }
-}
-
-// Whether label y leads from a and b to different classes.
-fn differ(table: &[u16; 16384], names: &[u16; 256], a: usize, b: usize, y: usize) -> bool
-    requires { ⌜ (a < 256) × (b < 256) × (y < 64) × (length (now names) ≡ 256) ⌝ }
-    ensures { λ r. ⌜ r ≡ apart (now (names .entry)) (look (now (table .entry)) a y) (look (now (table .entry)) b y) ⌝ }
-{
-    let left = table::entry(table, a, y);
-    if 256 <= left {
-        return false; // a does not have the label
-    }
-    let right = table::entry(table, b, y);
-    if 256 <= right {
-        return false; // only a has it: no conflict
-    }
-    names[left] != names[right]
-}
-
-// Whether a and b conflict.
-fn conflict(table: &[u16; 16384], names: &[u16; 256], m: usize, a: usize, b: usize) -> bool
-    requires { ⌜ (a < 256) × (b < 256) × (m ≤ 64) × (length (now names) ≡ 256) ⌝ }
-    ensures { λ r. ⌜ r ≡ clash (now (table .entry)) m (now (names .entry)) a b ⌝ }
-{
-    let mut y = 0;
-    while y < m {
-        if differ(table, names, a, b, y) {
-            return true;
-        }
-        y += 1;
-    }
-    false
-}
-
-impl Partition {
-    // A conflicting pair of the class named c.
-    fn pair_in(self, table: &[u16; 16384], m: usize, n: usize, c: u16) -> Found
-        requires { ⌜ (m ≤ 64) × (n ≤ 256) ⌝ }
-        ensures { λ r. ⌜ r ≡ foundOf n (clash (now (table .entry)) m (self .names)) (self .names) c ⌝ }
-    {
-        let names = self.names;
-        let mut found = Found::Nothing;
-        'search: for a in 0..n {
-            if names[a] == c {
-                for b in a + 1..n {
-                    if names[b] == c {
-                        for y in 0..m {
-                            if differ(table, &names, a, b, y) {
-                                found = Found::Pair(a, b);
-                                break 'search;
-                            }
-                        }
-                    }
-                }
-            }
-        }
-        found
-    }
-
-    // The class with the smallest name that has a conflicting pair; n where there is none.
-    fn first_parted(self, table: &[u16; 16384], m: usize, n: usize) -> usize
-        requires { ⌜ (m ≤ 64) × (n ≤ 256) ⌝ }
-        ensures { λ r. ⌜ r ≡ first n (clash (now (table .entry)) m (self .names)) (self .names) ⌝ }
-    {
-        let mut c = 0;
-        while c < n {
-            let found = self.pair_in(table, m, n, c as u16);
-            if let Found::Pair(_, _) = found {
-                return c;
-            }
-            c += 1;
-        }
-        c
-    }
-
-    // Class c is split: each of its groups becomes a class.
-    fn split(self, table: &[u16; 16384], m: usize, n: usize, c: u16) -> Partition
-        requires { ⌜ (m ≤ 64) × (n ≤ 256) × (self .rounds < 65535) ⌝ }
-        ensures { λ r. ⌜ (take n (r .names) ≡ rounded n (clash (now (table .entry)) m (self .names)) (self .names) c) × (r .rounds ≡ self .rounds + 1) ⌝ }
-    {
-        let names = self.names;
-        let rounds = self.rounds;
-        let groups = groups_of(table, &names, m, n, c);
-        let mut next = fresh();
-        let mut s = 0;
-        while s < n {
-            next[s] = new_name(&names, &groups, c, s);
-            s += 1;
-        }
-        Partition {
-            names: next,
-            rounds: rounds + 1,
-        }
-    }
-}
-
-// No group is marked.
-fn unmarked() -> [u8; 256]
-    ensures { λ r. ⌜ (r ≡ replicate 256 0) × (length r ≡ 256) ⌝ }
-{
-    [0; 256]
-}
-
-// Marks the groups of the members of class c before s that conflict with s.
-fn marked(
-    table: &[u16; 16384],
-    names: &[u16; 256],
-    groups: &[u16; 256],
-    m: usize,
-    c: u16,
-    s: usize,
-) -> [u8; 256]
-    requires { ⌜ (s < 256) × (m ≤ 64) × (length (now names) ≡ 256) × (length (now groups) ≡ 256) × ((t : ℕ) → t < s → at (now groups) t < 256) ⌝ }
-    ensures { λ r. ⌜ (length r ≡ 256) × ((g : ℕ) → g < 256 → at r g ≡ mark (taken (clash (now (table .entry)) m (now (names .entry))) (now (names .entry)) (now (groups .entry)) c s g s)) ⌝ }
-{
-    let mut marks = unmarked();
-    let mut t = 0;
-    while t < s {
-        if names[t] == c {
-            if conflict(table, names, m, t, s) {
-                let g = wide(groups[t]);
-                marks[g] = 1;
-            }
-        }
-        t += 1;
-    }
-    marks
-}
-
-// The smallest unmarked place below s; s where there is none.
-fn smallest_unmarked(marks: &[u8; 256], s: usize) -> u16
-    requires { ⌜ (s < 256) × (length (now marks) ≡ 256) ⌝ }
-    ensures { λ r. ⌜ r ≡ least (λ g. eqb (at (now (marks .entry)) g) 0) s ⌝ }
-{
-    let mut g: usize = 0;
-    while g < s {
-        if marks[g] == 0 {
-            return g as u16;
-        }
-        g += 1;
-    }
-    g as u16
-}
-
-// The group of s, where the groups of the states before it stand.
-fn group_of(
-    table: &[u16; 16384],
-    names: &[u16; 256],
-    groups: &[u16; 256],
-    m: usize,
-    c: u16,
-    s: usize,
-) -> u16
-    requires { ⌜ (s < 256) × (m ≤ 64) × (length (now names) ≡ 256) × (length (now groups) ≡ 256) × ((t : ℕ) → t < s → at (now groups) t < 256) ⌝ }
-    ensures { λ r. ⌜ r ≡ group (clash (now (table .entry)) m (now (names .entry))) (now (names .entry)) c (now (groups .entry)) s ⌝ }
-{
-    if names[s] != c {
-        return 0;
-    }
-    let marks = marked(table, names, groups, m, c, s);
-    smallest_unmarked(&marks, s)
-}
-
-// The group of each state, members of class c taken in ascending order.
-fn groups_of(table: &[u16; 16384], names: &[u16; 256], m: usize, n: usize, c: u16) -> [u16; 256]
-    requires { ⌜ (n ≤ 256) × (m ≤ 64) × (length (now names) ≡ 256) ⌝ }
-    ensures { λ r. ⌜ (length r ≡ 256) × (take n r ≡ groups (λ s. eqb (at (now (names .entry)) s) c) (clash (now (table .entry)) m (now (names .entry))) n) ⌝ }
-{
-    let mut groups = fresh();
-    let mut s = 0;
-    while s < n {
-        groups[s] = group_of(table, names, &groups, m, c, s);
-        s += 1;
-    }
-    groups
-}
-
-// The name of s when class c is split by groups: the smallest member of its group.
-fn new_name(names: &[u16; 256], groups: &[u16; 256], c: u16, s: usize) -> u16
-    requires { ⌜ (s < 256) × (length (now names) ≡ 256) × (length (now groups) ≡ 256) ⌝ }
-    ensures { λ r. ⌜ ((n : ℕ) → s < n → r ≡ renamed n (now (names .entry)) c (now (groups .entry)) s) ⌝ }
-{
-    if names[s] != c {
-        return names[s];
-    }
-    let mut t: usize = 0;
-    while t < s {
-        if names[t] == c {
-            if groups[t] == groups[s] {
-                return t as u16;
-            }
-        }
-        t += 1;
-    }
-    t as u16
-}
-
-// Rounds until no class has a conflicting pair.
-fn settled(table: &[u16; 16384], colours: &[u8; 256], m: usize, n: usize) -> Partition
-    requires { ⌜ (0 < n) × (n ≤ 256) × (m ≤ 64) × (length (now colours) ≡ 256) × ((s y t : ℕ) → look (now table) s y ≡ some t → t < n) ⌝ }
-    ensures names { λ r. ⌜ take n (r .names) ≡ reduction (taskOf (now (table .entry)) (now (colours .entry)) m n) .names ⌝ }
-    ensures rounds { λ r. ⌜ r .rounds ≡ reduction (taskOf (now (table .entry)) (now (colours .entry)) m n) .rounds ⌝ }
-{
-    let mut p = initial(colours, n);
-    let mut c = p.first_parted(table, m, n);
-    while c < n {
-        p = p.split(table, m, n, c as u16);
-        c = p.first_parted(table, m, n);
-    }
-    p
 }

@@ -3,17 +3,19 @@
 use mathlib.Core.Path.{_≡_, refl, sym, ap, _∙_, fun-ext, subst}
 use mathlib.Core.Bool.{true, false}
 use mathlib.Core.List.{List, [], _∷_, _++_}
-use mathlib.Core.Option.{Option, none}
-use Prim.Native.Nat.{ℕ, _+_, _*_, _<_}
+use mathlib.Core.Option.{Option, none, some}
+use Prim.Native.Nat.{ℕ, zero, suc, _+_, _*_, _-_, _≤_, _<_}
 use native.Mathlib.Decide.{decLt, ℕ-discrete}
 use native.Mathlib.Omega.{arith}
-use lib.ListN.{length, getD, set, replicate, getD-replicate}
-use lib.Seq.{getD-set-same, getD-set-other}
-use borrow.Author.Tests.{lt-ltb, le-ltb, eq-eqb, ne-eqb}
+use lib.Dec.{eqb, ltb}
+use lib.ListN.{length, getD, set, drop, replicate, getD-replicate, List·getD-append, List·getD-eq-default}
+use lib.Seq.{getD-set-same, getD-set-other, getD-drop, getD-append-add}
+use borrow.Author.Tests.{lt-ltb, le-ltb, ltb-true, ltb-false, eq-eqb, ne-eqb}
 use Rattle.meaning.specs.Filter.{Edge, ascending}
 use Rattle.meaning.specs.Trace.{target}
 use Rattle.meaning.specs.TraceLaws.{stands, target-snoc, target-before, target-fresh}
-use Rattle.table.specs.Table.{entry, look}
+use Rattle.meaning.specs.Cases.{test}
+use Rattle.table.specs.Table.{entry, look, or, given}
 
 pub look-here : (T : List ℕ) (s y : ℕ) → s < 256 → y < 64 → look T s y ≡ entry (getD T (s * 64 + y) 0)
 unfolding look
@@ -36,26 +38,38 @@ look-empty = fun-ext λ s. fun-ext λ y. go s y (decLt s 256) (decLt y 64)
     go s y (yes h) (no k) = look-out-label (replicate 16384 65535) s y h k
     go s y (no h) k = look-out-state (replicate 16384 65535) s y h
 
+-- ---- one entry stored
+
+module _ (T : List ℕ) (a b v : ℕ) (state : a < 256) (label : b < 64) where
+  abbrev stored : List ℕ
+  stored = set T (a * 64 + b) v
+
+  pub look-stored : length T ≡ 16384 → look stored a b ≡ entry v
+  look-stored long = look-here stored a b state label ∙ ap entry (getD-set-same T (a * 64 + b) v 0 (omega arith))
+
+  pub look-kept : (s y : ℕ) → (a ≡ s → b ≡ y → ⊥) → look stored s y ≡ look T s y
+  look-kept s y h = go (decLt s 256) (decLt y 64)
+    where
+      go : Dec (s < 256) → Dec (y < 64) → look stored s y ≡ look T s y
+      go (yes p) (yes q) =
+          look-here stored s y p q ∙ ap entry (getD-set-other T (a * 64 + b) (s * 64 + y) v 0 (λ z. h (omega arith) (omega arith))) ∙ sym (look-here T s y p q)
+      go (yes p) (no q) = look-out-label stored s y p q ∙ sym (look-out-label T s y p q)
+      go (no p) q = look-out-state stored s y p ∙ sym (look-out-state T s y p)
+
+-- ---- one edge more
+
 module _ (T : List ℕ) (es : List Edge) (e : Edge) (rest : List Edge) (long : length T ≡ 16384) (source : e .source < 256) (label : e .label < 64) (to : e .target < 256)
     (is : look T ≡ target es) (order : ascending (es ++ (e ∷ rest)) ≡ true) where
   abbrev more : List ℕ
   more = set T (e .source * 64 + e .label) (e .target)
 
-  kept : (s y : ℕ) → (e .source ≡ s → e .label ≡ y → ⊥) → Dec (s < 256) → Dec (y < 64) → look more s y ≡ look T s y
-  kept s y h (yes a) (yes b) =
-      look-here more s y a b
-      ∙ ap entry (getD-set-other T (e .source * 64 + e .label) (s * 64 + y) (e .target) 0 (λ z. h (omega arith) (omega arith)))
-      ∙ sym (look-here T s y a b)
-  kept s y h (yes a) (no b) = look-out-label more s y a b ∙ sym (look-out-label T s y a b)
-  kept s y h (no a) b = look-out-state more s y a ∙ sym (look-out-state T s y a)
-
   apart : (s y : ℕ) → (e .source ≡ s → e .label ≡ y → ⊥) → stands e s y ≡ false → look more s y ≡ target (es ++ (e ∷ [])) s y
-  apart s y h k = kept s y h (decLt s 256) (decLt y 64) ∙ ap (λ (f : ℕ → ℕ → Option ℕ). f s y) is ∙ sym (target-before es e s y k)
+  apart s y h k = look-kept T (e .source) (e .label) (e .target) source label s y h ∙ ap (λ (f : ℕ → ℕ → Option ℕ). f s y) is ∙ sym (target-before es e s y k)
 
   here : look more (e .source) (e .label) ≡ target (es ++ (e ∷ [])) (e .source) (e .label)
   here =
-      look-here more (e .source) (e .label) source label
-      ∙ rw (getD-set-same T (e .source * 64 + e .label) (e .target) 0 (omega arith), lt-ltb (e .target) 256 to)
+      look-stored T (e .source) (e .label) (e .target) source label long
+      ∙ rw (lt-ltb (e .target) 256 to)
       (sym (target-snoc es e (e .source) (e .label) (target-fresh es e rest order) ∙ rw (eq-eqb (e .source) (e .source) refl, eq-eqb (e .label) (e .label) refl)))
 
   -- one edge more, behind those that are there
@@ -67,3 +81,77 @@ module _ (T : List ℕ) (es : List Edge) (e : Edge) (rest : List Edge) (long : l
           subst (λ (z : ℕ). look more z y ≡ target (es ++ (e ∷ [])) z y) a (subst (λ (z : ℕ). look more (e .source) z ≡ target (es ++ (e ∷ [])) (e .source) z) b here)
       go s y (yes a) (no b) = apart s y (λ u w. b w) (rw (eq-eqb (e .source) s a, ne-eqb (e .label) y b))
       go s y (no a) b = apart s y (λ u w. a u) (rw (ne-eqb (e .source) s a))
+
+-- ---- a state given the edges of another
+
+module _ (next : ℕ → ℕ → Option ℕ) (from to : ℕ) where
+  pub given-none : next ≡ given next from to 0
+  unfolding given
+  given-none = fun-ext λ s. fun-ext λ y. test (eqb s to) (λ q. rw (q, le-ltb y 0 (omega arith))) (λ q. rw q)
+
+  pub given-here : (y s : ℕ) → given next from to y s y ≡ next s y
+  unfolding given
+  given-here y s = test (eqb s to) (λ q. rw (q, le-ltb y y (omega arith))) (λ q. rw q)
+
+  pub given-more : (y : ℕ) (f : ℕ → ℕ → Option ℕ) → f to y ≡ or (next to y) (next from y) →
+      ((s z : ℕ) → (to ≡ s → y ≡ z → ⊥) → f s z ≡ given next from to y s z) → f ≡ given next from to (y + 1)
+  unfolding given
+  given-more y f here else = fun-ext λ s. fun-ext λ z. go s z (ℕ-discrete to s) (ℕ-discrete y z)
+    where
+      past : (s z : ℕ) → (y ≡ z → ⊥) → ltb z y ≡ ltb z (y + 1)
+      past s z h = test (ltb z y)
+          (λ q. q ∙ sym (lt-ltb z (y + 1) (omega (arith, ltb-true z y q))))
+          (λ q. q ∙ sym (le-ltb z (y + 1) (omega (arith, ltb-false z y q, order))))
+        where
+          order : (z ≡ y → ⊥)
+          order e = h (sym e)
+
+      go : (s z : ℕ) → Dec (to ≡ s) → Dec (y ≡ z) → f s z ≡ given next from to (y + 1) s z
+      go s z (yes a) (yes b) =
+          subst (λ (k : ℕ). f k z ≡ given next from to (y + 1) k z) a
+          (subst (λ (k : ℕ). f to k ≡ given next from to (y + 1) to k) b (here ∙ rw (eq-eqb to to refl, lt-ltb y (y + 1) (omega arith))))
+      go s z (yes a) (no b) = else s z (λ u w. b w) ∙ rw (past s z b)
+      go s z (no a) b = else s z (λ u w. a u) ∙ rw (ne-eqb s to (λ u. a (sym u)))
+
+-- one label further, in a table where the labels before it are given
+module _ (T₀ T : List ℕ) (from to y : ℕ) (hf : from < 256) (ht : to < 256) (hy : y < 64) (so-far : look T ≡ given (look T₀) from to y) where
+  -- the entries of label y are still those of the beginning
+  same : (s : ℕ) → look T s y ≡ look T₀ s y
+  same s = ap (λ (f : ℕ → ℕ → Option ℕ). f s y) so-far ∙ given-here (look T₀) from to y s
+
+  read : (s : ℕ) → s < 256 → entry (getD T (s * 64 + y) 0) ≡ look T₀ s y
+  read s h = sym (look-here T s y h hy) ∙ same s
+
+  pub give-kept : getD T (to * 64 + y) 0 < 256 → look T ≡ given (look T₀) from to (y + 1)
+  give-kept h =
+      let own : some (getD T (to * 64 + y) 0) ≡ look T₀ to y = sym (rw (lt-ltb _ _ h)) ∙ read to ht in
+      given-more (look T₀) from to y (look T) (same to ∙ rw (← own))
+      (λ s z _. ap (λ (f : ℕ → ℕ → Option ℕ). f s z) so-far)
+
+  pub give-stored : length T ≡ 16384 → 256 ≤ getD T (to * 64 + y) 0 → look (set T (to * 64 + y) (getD T (from * 64 + y) 0)) ≡ given (look T₀) from to (y + 1)
+  give-stored long h =
+      let v = getD T (from * 64 + y) 0 in
+      let lacks : none ≡ look T₀ to y = sym (rw (le-ltb _ _ h)) ∙ read to ht in
+      given-more (look T₀) from to y (look (set T (to * 64 + y) v)) (look-stored T to y v ht hy long ∙ read from hf ∙ rw (← lacks))
+      (λ s z other. look-kept T to y v ht hy s z other ∙ ap (λ (f : ℕ → ℕ → Option ℕ). f s z) so-far)
+
+-- ---- colours
+
+-- zeros behind a list are what reading past its end gives
+pub padded : (xs : List ℕ) (n k : ℕ) → _≡_ {A = ℕ → ℕ} (λ s. getD (xs ++ drop n (replicate k 0)) s 0) (λ s. getD xs s 0)
+padded xs n k = fun-ext λ s. go s (decLt s (length xs))
+  where
+    zeros : (k n s : ℕ) → _≡_ {A = ℕ} (getD (drop n (replicate k 0)) s 0) 0
+    zeros k n s = getD-drop n (replicate k 0) s 0 ∙ zero-at k (n + s)
+      where
+        zero-at : (k j : ℕ) → _≡_ {A = ℕ} (getD (replicate k 0) j 0) 0
+        zero-at zero j = refl
+        zero-at (suc k) zero = refl
+        zero-at (suc k) (suc j) = zero-at k j
+
+    go : (s : ℕ) → Dec (s < length xs) → getD (xs ++ drop n (replicate k 0)) s 0 ≡ getD xs s 0
+    go s (yes l) = List·getD-append xs (drop n (replicate k 0)) 0 s l
+    go s (no l) =
+        let e : length xs + (s - length xs) ≡ s = omega arith in
+        ap (λ (j : ℕ). getD (xs ++ drop n (replicate k 0)) j 0) (sym e) ∙ getD-append-add xs (drop n (replicate k 0)) (s - length xs) 0 ∙ zeros k n (s - length xs)
+        ∙ sym (List·getD-eq-default xs 0 {n = s} (omega arith))

@@ -4,7 +4,7 @@ use Prim.Native.Nat.{ℕ, _+_, _*_}
 use mathlib.Core.Bool.{_&&_}
 use mathlib.Core.List.{List}
 use mathlib.Core.Option.{Option, none, some}
-use lib.Dec.{ltb}
+use lib.Dec.{eqb, ltb}
 use lib.ListN.{getD}
 use Rattle.meaning.specs.Pick.{pick}
 
@@ -15,3 +15,12 @@ entry v = pick (ltb v 256) (some v) none
 -- The edge of a state at a label. A state or a label outside the table has none, so that no two share an entry.
 unfoldable pub look : List ℕ → ℕ → ℕ → Option ℕ
 look table s y = pick (ltb s 256 && ltb y 64) (entry (getD table (s * 64 + y) 0)) none
+
+-- The first of two edges, where there is one.
+abbrev pub or : Option ℕ → Option ℕ → Option ℕ
+or (some t) o = some t
+or none o = o
+
+-- The edges `next`, and for state `to` at the labels below m those of state `from` where it has none itself.
+unfoldable pub given : (ℕ → ℕ → Option ℕ) → ℕ → ℕ → ℕ → ℕ → ℕ → Option ℕ
+given next from to m s y = pick (eqb s to && ltb y m) (or (next to y) (next from y)) (next s y)

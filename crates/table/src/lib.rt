@@ -1,4 +1,4 @@
-// The look-up of edges, state and label to target, filled in one pass over a file.
+// What a call looks up in a checked file: edges, state and label to target, and colours, each filled in one pass.
 use file::Profile;
 use file::Reading;
 use file::edge;
@@ -8,13 +8,13 @@ ghost use mathlib.Core.Bool.{true};
 ghost use Prim.Native.Nat.{_+_, _*_, _<_, _≤_};
 ghost use lib.ListN.{length, getD, replicate};
 ghost use Rattle.meaning.specs.Filter.{ascending};
-ghost use Rattle.meaning.specs.Trace.{target, edge};
+ghost use Rattle.meaning.specs.Trace.{target, edge, colour};
 ghost use Rattle.file.specs.Layout.{large};
 ghost use Rattle.file.specs.Contents.{edgesFrom, filterIn};
 ghost use Rattle.file.specs.Answers.{readingOutcome};
 ghost use Rattle.file.specs.Refusals.{checkOf};
 ghost use Rattle.file.specs.Code.{Usable};
-ghost use Rattle.table.specs.Table.{look};
+ghost use Rattle.table.specs.Table.{look, given};
 
 // A table without edges.
 fn empty() -> [u16; 16384]
@@ -26,7 +26,7 @@ fn empty() -> [u16; 16384]
 // The table of a file that was checked, with what the check read.
 pub fn table_of(file: &[u8], reading: Reading) -> [u16; 16384]
     requires { ⌜ checkOf large (now file) ≡ readingOutcome reading ⌝ }
-    ensures { λ r. ⌜ look r ≡ edge (filterIn large (now (file .entry))) ⌝ }
+    ensures { λ r. ⌜ (look r ≡ edge (filterIn large (now (file .entry)))) × (length r ≡ 16384) ⌝ }
 {
     let p = file::large();
     let at = layout::edges_begin(p, reading.states);
@@ -36,7 +36,7 @@ pub fn table_of(file: &[u8], reading: Reading) -> [u16; 16384]
 // The table of e edges from bit `at` on.
 fn filled(p: Profile, file: &[u8], at: usize, e: usize) -> [u16; 16384]
     requires { ⌜ Usable p × (p .labels ≤ 6) × (at ≤ 2096) × (e ≤ 65536) × (ascending (edgesFrom p (now file) at e) ≡ true) ⌝ }
-    ensures { λ r. ⌜ look r ≡ target (edgesFrom p (now (file .entry)) at e) ⌝ }
+    ensures { λ r. ⌜ (look r ≡ target (edgesFrom p (now (file .entry)) at e)) × (length r ≡ 16384) ⌝ }
 {
     let width = layout::edge_bits(p);
     let mut table = empty();
@@ -54,12 +54,49 @@ fn filled(p: Profile, file: &[u8], at: usize, e: usize) -> [u16; 16384]
     table
 }
 
+fn no_colours() -> [u8; 256]
+    ensures { λ r. ⌜ (r ≡ replicate 256 0) × (length r ≡ 256) ⌝ }
+{
+    [0; 256]
+}
+
+// The colour of each state of a file that was checked, one byte a state.
+pub fn colours_of(file: &[u8], reading: Reading) -> [u8; 256]
+    requires { ⌜ checkOf large (now file) ≡ readingOutcome reading ⌝ }
+    ensures { λ r. ⌜ ((λ s. getD r s 0) ≡ colour (filterIn large (now (file .entry)))) × (length r ≡ 256) ⌝ }
+{
+    let p = file::large();
+    let mut hues = no_colours();
+    bits::get_run(
+        file,
+        layout::header_bits(p),
+        p.colour,
+        reading.states,
+        &mut hues,
+    );
+    hues
+}
+
 // The entry of a state and a label: the target, or 65,535.
 pub fn entry(table: &[u16; 16384], state: usize, label: usize) -> usize
     requires { ⌜ (state < 256) × (label < 64) ⌝ }
     ensures { λ r. ⌜ r ≡ getD (now (table .entry)) (state * 64 + label) 0 ⌝ }
 {
     wide(table[state * 64 + label])
+}
+
+// Gives state `to` the edges of state `from` at the labels below m where it has none itself.
+pub fn give(table: &mut [u16; 16384], from: usize, to: usize, m: usize)
+    requires { ⌜ (from < 256) × (to < 256) × (m ≤ 64) × (length (now table) ≡ 16384) ⌝ }
+    ensures { λ _. ⌜ (look (now (table .exit)) ≡ given (look (now (table .entry))) from to m) × (length (now (table .exit)) ≡ 16384) ⌝ }
+{
+    let mut y = 0;
+    while y < m {
+        if 256 <= entry(table, to, y) {
+            table[to * 64 + y] = table[from * 64 + y];
+        }
+        y += 1;
+    }
 }
 
 fn wide(x: u16) -> usize

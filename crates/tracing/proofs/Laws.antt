@@ -154,24 +154,3 @@ module _ (next : ℕ → ℕ → Option ℕ) (hue : ℕ → ℕ) where
             ended m (r .shows ∙ ap (λ (o : List ℕ). take i all ++ ridden next hue s o) nil),
             r .halts ∙ ap (λ (o : List ℕ). from i (halted next s o)) nil,
           )
-
--- ---- colours
-
--- zeros behind a list are what reading past its end gives
-pub padded : (xs : List ℕ) (n k : ℕ) → _≡_ {A = ℕ → ℕ} (λ s. getD (xs ++ drop n (replicate k 0)) s 0) (λ s. getD xs s 0)
-padded xs n k = fun-ext λ s. go s (decLt s (length xs))
-  where
-    zeros : (k n s : ℕ) → _≡_ {A = ℕ} (getD (drop n (replicate k 0)) s 0) 0
-    zeros k n s = getD-drop n (replicate k 0) s 0 ∙ zero-at k (n + s)
-      where
-        zero-at : (k j : ℕ) → _≡_ {A = ℕ} (getD (replicate k 0) j 0) 0
-        zero-at zero j = refl
-        zero-at (suc k) zero = refl
-        zero-at (suc k) (suc j) = zero-at k j
-
-    go : (s : ℕ) → Dec (s < length xs) → getD (xs ++ drop n (replicate k 0)) s 0 ≡ getD xs s 0
-    go s (yes l) = List·getD-append xs (drop n (replicate k 0)) 0 s l
-    go s (no l) =
-        let e : length xs + (s - length xs) ≡ s = omega arith in
-        ap (λ (j : ℕ). getD (xs ++ drop n (replicate k 0)) j 0) (sym e) ∙ getD-append-add xs (drop n (replicate k 0)) (s - length xs) 0 ∙ zeros k n (s - length xs)
-        ∙ sym (List·getD-eq-default xs 0 {n = s} (omega arith))

@@ -47,7 +47,7 @@ pub fn trace(file: &[u8], observations: &[u8], colours: &mut [u8]) -> Traced
         return refused(Kind::Observation, outside);
     }
     let table = table::table_of(file, reading);
-    let hues = colours_of(file, reading);
+    let hues = table::colours_of(file, reading);
     let start = reading.start;
     ride_through(&table, &hues, start, observations, colours)
 }
@@ -86,29 +86,6 @@ fn first_outside(m: usize, observations: &[u8]) -> usize
         i += 1;
     }
     i
-}
-
-fn no_colours() -> [u8; 256]
-    ensures { λ r. ⌜ (r ≡ replicate 256 0) × (length r ≡ 256) ⌝ }
-{
-    [0; 256]
-}
-
-// The colour of each state of a file that was checked, one byte a state.
-fn colours_of(file: &[u8], reading: Reading) -> [u8; 256]
-    requires { ⌜ checkOf large (now file) ≡ readingOutcome reading ⌝ }
-    ensures { λ r. ⌜ ((λ s. getD r s 0) ≡ colour (filterIn large (now (file .entry)))) × (length r ≡ 256) ⌝ }
-{
-    let p = file::large();
-    let mut hues = no_colours();
-    bits::get_run(
-        file,
-        layout::header_bits(p),
-        p.colour,
-        reading.states,
-        &mut hues,
-    );
-    hues
 }
 
 // A ride in progress: the current state and the observations taken.

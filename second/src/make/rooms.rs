@@ -1,8 +1,8 @@
 //! Rooms, which are found full of something, since what a call leaves alone must stay.
 
-use crate::bits::Bits;
 use crate::case::Case;
-use crate::make::traces;
+use crate::file::Header;
+use crate::make::{reduces, traces};
 use crate::random::Random;
 
 #[derive(Clone, Copy, Debug, PartialEq, Eq)]
@@ -41,7 +41,7 @@ pub fn any(random: &mut Random) -> Room {
     ])
 }
 
-/// The file checked, unpacked into rooms of some kind, and traced with some observations.
+/// The file checked, unpacked into rooms of some kind, traced with some observations, and reduced.
 pub fn cases_of_file(random: &mut Random, file: Vec<u8>) -> Vec<Case> {
     let (colours, edges) = wanted_by(&file);
     let colour_room = any(random).found(colours, random);
@@ -49,19 +49,18 @@ pub fn cases_of_file(random: &mut Random, file: Vec<u8>) -> Vec<Case> {
     vec![
         Case::check(file.clone()),
         Case::unpack(file.clone(), colour_room, edge_room),
-        traces::of_file(random, file),
+        traces::of_file(random, file.clone()),
+        reduces::of_file(random, file),
     ]
 }
 
 /// What the header asks for; but little where the file is far too short to hold that.
 fn wanted_by(file: &[u8]) -> (usize, usize) {
-    if file.len() < 5 {
+    let Some(header) = Header::of(file) else {
         return (3, 12);
-    }
-    let mut bits = Bits::of(&file[..5]);
-    let n = bits.eat(8) as usize + 1;
-    bits.eat(6 + 8);
-    let e = bits.eat(15) as usize;
+    };
+    let n = header.n as usize;
+    let e = header.e as usize;
     if 3 * e > 2 * file.len() {
         return (n, 12);
     }

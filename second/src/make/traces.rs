@@ -1,8 +1,7 @@
 //! The families of observations, for trace.
 
-use crate::bits::Bits;
 use crate::case::Case;
-use crate::file::{write, Edge, Filter};
+use crate::file::{write, Edge, Filter, Header};
 use crate::frame::LONGEST;
 use crate::make::damage::outside;
 use crate::make::draft::Draft;
@@ -74,13 +73,7 @@ fn in_room(file: Vec<u8>, observations: Vec<u8>, room: Room, random: &mut Random
 
 /// The file traced with a few observations, mostly of labels that its header allows.
 pub fn of_file(random: &mut Random, file: Vec<u8>) -> Case {
-    let m = if file.len() < 5 {
-        3
-    } else {
-        let mut bits = Bits::of(&file[..5]);
-        bits.eat(8);
-        bits.eat(6) + 1
-    };
+    let m = Header::of(&file).map_or(3, |header| header.m);
     let count = random.between(0, 12);
     let mut observations = labels(m, count as usize, random);
     if random.once_in(8) {

@@ -29,8 +29,8 @@ impl Ran {
     }
 }
 
-/// The program of that name in target/bin. The environment variable of the same name in capitals (ANSWERS, TRACE) names
-/// another one, to try the tests themselves.
+/// The program of that name in target/bin. The environment variable of the same name in capitals (ANSWERS, TRACE, REDUCE,
+/// SHRINK) names another one, to try the tests themselves.
 pub fn program(name: &str) -> Command {
     let path = match env::var_os(name.to_uppercase()) {
         Some(path) => absolute(path).expect("a path"),

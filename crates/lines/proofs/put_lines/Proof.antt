@@ -1,15 +1,14 @@
 -- `lines::put_lines` meets its contract. The invariant: the first numbers' lines stand at the room's beginning. Assumes nothing.
-use mathlib.Core.Path.{_≡_, refl, ap, sym, _∙_}
-use mathlib.Core.List.{List, _++_}
+use mathlib.Core.Path.{_≡_, refl, ap, _∙_}
+use mathlib.Core.List.{List}
 use Prim.Native.Nat.{ℕ, _+_, _*_, _-_, _≤_}
 use native.Mathlib.Nat.{le-antisymm, zero-add}
-use native.Mathlib.Numerals.{add-one}
 use native.Mathlib.Omega.{arith}
 use denote.Ref.{now}
 use lib.ListN.{length, getD, take}
-use lib.Seq.{take-suc, take-length}
-use Rattle.lines.specs.Text.{decimal, newline, numberLines, wrote}
-use Rattle.lines.proofs.Laws.{both, lines-snoc}
+use lib.Seq.{take-length}
+use Rattle.lines.specs.Text.{ended, numberLines, wrote}
+use Rattle.lines.proofs.Laws.{both, lines-more}
 use Rattle.lines.proofs.put_lines.Statement.{statement}
 use Rattle.lines.proofs.put_lines.Tie as tie
 
@@ -42,11 +41,9 @@ loop-again c =
     let loop = put .before .before .before .before .loop in
     let a = put .before .before .before .before .before .before .before .args in
     let ns = now (a .numbers) in
-    let n = getD ns (loop .i) 0 in
-    let more : numberLines (take (loop .i) ns) ++ (decimal n ++ newline) ≡ numberLines (take (loop .i + 1) ns) =
-    sym (ap (λ (k : ℕ). numberLines (take k ns)) (add-one (loop .i)) ∙ ap numberLines (take-suc ns (loop .i) 0 (put .before .before .before .loop-test .taken)) ∙ lines-snoc (take (loop .i) ns) n) in
+    let more = lines-more ns (loop .i) (put .before .before .before .loop-test .taken) in
     let done =
-    both (now (a .room)) (loop .room) (put .put-line .last .0) 0 (loop .at) (put .put-line .result) (numberLines (take (loop .i) ns)) (decimal n ++ newline) (omega arith) (loop .inv .3)
+    both (now (a .room)) (loop .room) (put .put-line .last .0) 0 (loop .at) (put .put-line .result) (numberLines (take (loop .i) ns)) (ended (getD ns (loop .i) 0)) (omega arith) (loop .inv .3)
     (loop .inv .4) (put .put-line .ensures .0) (put .put-line .ensures .1) in (
       omega arith,
       omega (arith, put .put-line .ensures .2),

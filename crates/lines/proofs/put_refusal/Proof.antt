@@ -4,9 +4,9 @@ use Prim.Native.Nat.{ℕ, _+_}
 use native.Mathlib.Omega.{arith}
 use denote.Ref.{now}
 use lib.ListN.{length}
-use mathlib.Core.List.{List, _++_}
+use mathlib.Core.List.{List}
 use Rattle.file.specs.Answers.{numberOf}
-use Rattle.lines.specs.Text.{decimal, space, newline, refusedWord, refusalLine, wrote}
+use Rattle.lines.specs.Text.{refusedWord, pairLine, refusalLine, wrote}
 use Rattle.lines.proofs.Laws.{both}
 use borrow.Author.Needs.{needs}
 use Rattle.lines.proofs.put_refusal.Statement.{statement}
@@ -38,11 +38,13 @@ returns c =
     let word = number .before .before .before .before .before in
     let start = word .before .before .before .before in
     let a = start .args in
-    let text : ℕ → List ℕ = λ n. decimal n ++ (space ++ (decimal (a .why .place) ++ newline)) in
+    let text : ℕ → List ℕ = λ n. pairLine n (a .why .place) in
     let is : number .wide .result ≡ numberOf (a .why .kind) = number .wide .ensures .0 ∙ number .before .number .ensures in
+    let done =
     both (now (a .room)) (word .put .last .0) (two .put-two .last .0) (a .at) (word .put .result) (two .put-two .result) refusedWord (text (numberOf (a .why .kind))) (omega arith)
     (word .put .ensures .0) (word .put .ensures .1) (two .put-two .ensures .0 ∙ ap (λ (n : ℕ). wrote (word .put .last .0) (word .put .result) (text n)) is)
-    (two .put-two .ensures .1 ∙ ap (λ (n : ℕ). word .put .result + length (text n)) is)
+    (two .put-two .ensures .1 ∙ ap (λ (n : ℕ). word .put .result + length (text n)) is) in
+    (done .0, done .1, omega (arith, word .put .ensures .1, two .put-two .ensures .2))
 
 pub put-refusal-spec : {M : Type 1} → statement M
 put-refusal-spec =

@@ -1,14 +1,8 @@
 -- `lines::put_trace` meets its contract. Assumes nothing.
-use mathlib.Core.Path.{sym, _∙_}
-use mathlib.Core.List.{_++_}
-use Prim.Native.Nat.{_+_}
-use native.Mathlib.Nat.{zero-add}
-use native.Mathlib.Omega.{arith}
 use borrow.Author.Needs.{needs}
 use denote.Ref.{now}
-use lib.ListN.{length}
 use Rattle.lines.specs.Text.{numberLines, lastLine}
-use Rattle.lines.proofs.Laws.{both}
+use Rattle.lines.proofs.Laws.{both-front}
 use Rattle.lines.proofs.put_trace.Statement.{statement}
 use Rattle.lines.proofs.put_trace.Tie as tie
 
@@ -27,11 +21,8 @@ returns c =
     let lines = last .before .before .before .before in
     let start = lines .before .before .before .before in
     let a = start .args in
-    let colours = numberLines (now (a .colours)) in
-    let done =
-    both (now (a .room)) (lines .put-lines .last .0) (last .put-last .last .0) 0 (lines .put-lines .result) (last .put-last .result) colours (lastLine (a .answer)) (omega arith)
-    (lines .put-lines .ensures .0) (lines .put-lines .ensures .1 ∙ sym (zero-add (length colours))) (last .put-last .ensures .0) (last .put-last .ensures .1) in
-    (done .0, done .1 ∙ zero-add (length (colours ++ lastLine (a .answer))))
+    both-front (now (a .room)) (lines .put-lines .last .0) (last .put-last .last .0) (lines .put-lines .result) (last .put-last .result) (numberLines (now (a .colours))) (lastLine (a .answer))
+    (lines .put-lines .ensures .0) (lines .put-lines .ensures .1) (last .put-last .ensures .0) (last .put-last .ensures .1)
 
 pub put-trace-spec : {M : Type 1} → statement M
 put-trace-spec = tie.close (tie.spec put-lines-requires put-last-requires same-length returns)

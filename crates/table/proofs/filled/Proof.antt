@@ -108,7 +108,7 @@ returns c =
     let loop = c .before .loop in
     let start = c .before .before .before .before .before in
     let all : loop .i ≡ start .args .e = le-antisymm (loop .inv .0) (c .loop-test .left) in
-    loop .inv .3 ∙ ap (λ (k : ℕ). target (edgesFrom (start .args .p) (now (start .args .file)) (start .args .at) k)) all
+    (loop .inv .3 ∙ ap (λ (k : ℕ). target (edgesFrom (start .args .p) (now (start .args .file)) (start .args .at) k)) all, loop .inv .2)
 
 pub filled-spec : {M : Type 1} → statement M
 filled-spec =

@@ -56,7 +56,7 @@ filled-requires c κs =
 
 returns : tie.Need-returns
 unfolding edge filterIn
-returns c = c .filled .ensures ∙ ap target (edges-are (c .before))
+returns c = (c .filled .ensures .0 ∙ ap target (edges-are (c .before)), c .filled .ensures .1)
 
 pub table-of-spec : {M : Type 1} → statement M
 table-of-spec = tie.close (tie.spec large-requires edges-begin-requires filled-requires returns)

@@ -165,7 +165,7 @@ returns-5 c =
     let F = filterIn large (file k) in
     let ys = observations k in
     let from-start : reading told .start ≡ F .start = start-of (file k) (reading told .start) (is .start-is) in
-    let by-table = table .table-of .ensures in
+    let by-table = table .table-of .ensures .0 in
     let by-hues = hues .colours-of .ensures .0 in
     trace-ridden large (file k) ys (room k) _ (is .answer) (roomy e2) (ride .ride-through .result) (ride .ride-through .last .1 .1 .1 .1 .0) (inside e3)
     (ride .ride-through .ensures .0 ∙ ap₂ (λ (next : ℕ → ℕ → Option ℕ) (s : ℕ). rideOutcome (halted next s ys)) by-table from-start)

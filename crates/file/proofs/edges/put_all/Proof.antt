@@ -1,20 +1,21 @@
 -- `file::edges::put_all` meets its contract. The invariant: the edges so far are written, one behind another. Assumes nothing.
 use mathlib.Core.Path.{_≡_, refl, ap, ap₂, sym, _∙_}
-use mathlib.Core.List.{List}
-use Prim.Native.Nat.{ℕ, _+_, _*_, _-_, _^_, _<_, _≤_}
+use mathlib.Core.List.{List, _∷_, []}
+use Prim.Native.Nat.{ℕ, _+_, _*_, _-_, _≤_}
 use native.Mathlib.Nat.{mul-suc, le-antisymm}
 use native.Mathlib.Numerals.{add-one}
 use native.Mathlib.Omega.{arith}
 use borrow.Author.Needs.{needs}
 use denote.Ref.{now}
-use lib.ListN.{length, getD, take}
+use lib.ListN.{length, take}
 use lib.Seq.{take-length}
-use Rattle.bits.specs.Bits.{putField, putFields}
+use Rattle.bits.specs.Bits.{putFields}
 use Rattle.bits.proofs.Runs.{fit-length}
 use Rattle.meaning.specs.Filter.{Edge}
-use Rattle.file.specs.Layout.{edgeBits, edgeWidths}
+use Rattle.file.specs.Layout.{edgeBits, edgeWidths, putEdges}
+use Rattle.file.specs.Code.{edgeIn}
 use Rattle.file.proofs.Bounds.{edges-high}
-use Rattle.file.proofs.EdgeLists.{length-widths, fit-edge, puts-edge}
+use Rattle.file.proofs.EdgeLists.{length-widths, fit-edge, puts-listed}
 use Rattle.file.proofs.edges.put_all.Statement.{statement}
 use Rattle.file.proofs.edges.put_all.Tie as tie
 
@@ -37,13 +38,13 @@ unfolding putFields edgeWidths
 loop-holds c = (omega arith, omega arith, refl, refl)
 
 listed-requires : tie.Need-listed-requires Inv-loop μ-loop
-listed-requires c κs = omega (arith, whole (c .before .before .before .before .before))
+listed-requires c κs = omega (arith, whole (c .before .before .before .before .before .before))
 
-joined-requires : tie.Need-joined-requires Inv-loop μ-loop
-joined-requires c κs =
+put-requires : tie.Need-put-requires Inv-loop μ-loop
+put-requires c κs =
     let loop = c .before .before .before .loop in
     let start = c .before .before .before .before .before .before .before in
-    let is = c .before .listed .ensures in
+    let is = c .listed .ensures in
     let f = fit-edge (start .args .p) (start .args .e) (now (start .args .edges)) (loop .i) (start .pre .3) (c .before .before .loop-test .taken) in (
       start .pre .0,
       rw (ap (λ (e : Edge). e .source) is) (f .source),
@@ -51,16 +52,10 @@ joined-requires c κs =
       rw (ap (λ (e : Edge). e .target) is) (f .target),
     )
 
-put-requires : tie.Need-put-requires Inv-loop μ-loop
-unfolding edgeBits
-put-requires c κs =
-    let edge-bits = c .before .before .before .before .before .edge-bits in
-    (edge-bits .ensures .1, rw (edge-bits .ensures .0) (c .joined .ensures .1))
-
 add-place : tie.Need-add-place Inv-loop μ-loop
 add-place c =
-    let loop = c .before .before .before .before .before .before .before .loop in
-    let start = c .before .before .before .before .before .before .before .before .before .before .before in
+    let loop = c .before .before .before .before .before .before .loop in
+    let start = c .before .before .before .before .before .before .before .before .before .before in
     omega (arith, edges-high (start .args .p) (start .pre .0) (loop .i) (omega arith))
 
 add-i : tie.Need-add-i Inv-loop μ-loop
@@ -72,26 +67,20 @@ loop-less c = omega arith
 loop-again : tie.Need-loop-again Inv-loop μ-loop
 loop-again c =
     let put = c .before .before in
-    let joined = put .before in
-    let listed = joined .before .before in
-    let loop = listed .before .before .loop in
-    let bits = listed .before .before .before .edge-bits .ensures .0 in
-    let start = listed .before .before .before .before .before .before in
+    let listed = put .before in
+    let loop = listed .before .before .before .loop in
+    let bits = listed .before .before .before .before .edge-bits .ensures .0 in
+    let start = listed .before .before .before .before .before .before .before in
     let a = start .args in
     let edges = now (a .edges) in
-    let i = loop .i in
-    let value = (getD edges (3 * i) 0 * 2 ^ a .p .labels + getD edges (3 * i + 1) 0) * 2 ^ a .p .states + getD edges (3 * i + 2) 0 in
-    let is : joined .joined .result ≡ value =
-    joined .joined .ensures .0 ∙ ap (λ (e : Edge). (e .source * 2 ^ a .p .labels + e .label) * 2 ^ a .p .states + e .target) (listed .listed .ensures) in
-    let room : 3 * i + 2 < length edges = omega (arith, whole start) in
-    let fits = fit-edge (a .p) (a .e) edges i (start .pre .3) (listed .before .loop-test .taken) in (
+    let i = loop .i in (
       omega arith,
       rw (bits, loop .inv .1, add-one i, mul-suc (edgeBits (a .p)) i) (omega arith),
-      put .put .kept .0 ∙ loop .inv .2,
+      put .put .kept .1 .0 ∙ loop .inv .2,
       put .put .ensures
-          ∙ ap₂ (λ (w v : ℕ). putField (loop .part) (loop .place) w v) bits is
-          ∙ ap₂ (λ (s : List ℕ) (at : ℕ). putField s at (edgeBits (a .p)) value) (loop .inv .3) (loop .inv .1)
-          ∙ puts-edge (a .p) (now (a .part)) (a .bit) i edges room fits,
+          ∙ ap (λ (e : Edge). putEdges (a .p) (loop .part) (loop .place) (e ∷ [])) (listed .listed .ensures)
+          ∙ ap₂ (λ (s : List ℕ) (at : ℕ). putEdges (a .p) s at (edgeIn edges (3 * i) ∷ [])) (loop .inv .3) (loop .inv .1)
+          ∙ puts-listed (a .p) (now (a .part)) (a .bit) i edges (omega (arith, whole start)),
     )
 
 same-length : tie.Need-same-length Inv-loop μ-loop
@@ -115,7 +104,6 @@ put-all-spec =
     edge-bits-requires
     loop-holds
     listed-requires
-    joined-requires
     put-requires
     add-place
     add-i

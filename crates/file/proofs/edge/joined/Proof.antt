@@ -1,0 +1,28 @@
+-- `file::edge::joined` meets its contract: nothing is shifted out of 64 bits. Assumes nothing.
+use mathlib.Core.Path.{refl}
+use native.Mathlib.Omega.{arith}
+use borrow.Author.Needs.{needs}
+use Rattle.file.proofs.EdgeLists.{Joined, joined}
+use Rattle.file.proofs.edge.joined.Statement.{statement}
+use Rattle.file.proofs.edge.joined.Tie as tie
+
+parts : (c : tie.Start) → Joined (c .args .p .states) (c .args .p .labels) (c .args .edge .source) (c .args .edge .label) (c .args .edge .target)
+parts c = joined _ _ _ _ _ (c .pre .0 .states≤) (c .pre .0 .labels≤) (c .pre .1) (c .pre .2) (c .pre .3)
+
+shl-upper : tie.Need-shl-upper
+shl-upper c = search needs
+
+add-upper : tie.Need-add-upper
+add-upper c = let j = parts (c .before .before) in rw (j .upper-shift) (omega (arith, j .upper-lt))
+
+shl-result : tie.Need-shl-result
+shl-result c = search needs
+
+add-result : tie.Need-add-result
+add-result c = let j = parts (c .before .before .before) in rw (j .upper-shift, j .whole-shift) (omega (arith, j .whole-lt))
+
+returns : tie.Need-returns
+returns c = let j = parts (c .before .before .before) in rw (j .upper-shift, j .whole-shift) (refl, j .whole-fit)
+
+pub joined-spec : {M : Type 1} → statement M
+joined-spec = tie.close (tie.spec shl-upper add-upper shl-result add-result returns)

@@ -1,0 +1,107 @@
+-- `merging::put_rows` meets its contract. The invariant: the edges of the classes so far are written. Assumes nothing.
+use mathlib.Core.Path.{_≡_, refl, sym, ap, _∙_, subst}
+use mathlib.Core.List.{List}
+use mathlib.Core.Option.{Option}
+use Prim.Native.Nat.{ℕ, _+_, _*_, _-_, _≤_}
+use native.Mathlib.Nat.{le-antisymm}
+use native.Mathlib.Omega.{arith}
+use borrow.Author.Needs.{needs}
+use denote.Ref.{now}
+use lib.ListN.{length}
+use Rattle.meaning.specs.Search.{at}
+use Rattle.meaning.specs.Filter.{Edge}
+use Rattle.meaning.specs.Reduced.{row, listed}
+use Rattle.file.specs.Layout.{edgeBits, putEdges}
+use Rattle.table.specs.Table.{look}
+use Rattle.merging.specs.Merged.{led, rowEdge}
+use Rattle.merging.proofs.Merging.{listed-more, Put, put-none, put-behind}
+use Rattle.merging.proofs.put_rows.Statement.{statement}
+use Rattle.merging.proofs.put_rows.Tie as tie
+
+abbrev Inv-loop : tie.InvT-loop
+Inv-loop p part₀ bit table m list count names place₀ k₀ part place k = (k ≤ count) × (length part ≡ length part₀) × (place ≤ bit + 1536 * k) × Put p part₀ bit (listed (rowEdge table names list) k m) part place
+
+abbrev μ-loop : tie.MeasureT-loop
+μ-loop p part₀ bit table m list count names place₀ k₀ part place k = count - k
+
+loop-holds : tie.Need-loop-holds Inv-loop μ-loop
+unfolding listed
+loop-holds c = (omega arith, refl, omega arith, put-none _ _ _)
+
+mul-wide : tie.Need-mul-wide Inv-loop μ-loop
+mul-wide c = search needs
+
+array-read-wide : tie.Need-array-read-wide Inv-loop μ-loop
+array-read-wide c = search needs
+
+wide-requires : tie.Need-wide-requires Inv-loop μ-loop
+wide-requires c κs = search needs
+
+put-row-requires : tie.Need-put-row-requires Inv-loop μ-loop
+put-row-requires c κs =
+    let start = c .before .before .before .before .before .before .before in
+    let pre = start .pre in
+    let loop = c .before .before .before .loop in (
+      pre .0,
+      omega (arith, loop .inv .2, loop .inv .0, pre .1, pre .2),
+      rw (c .wide .ensures) (pre .6 (loop .k) (c .before .before .loop-test .taken)),
+      omega (arith, pre .3, c .before .before .loop-test .taken),
+      pre .4,
+      pre .5,
+      pre .7,
+    )
+
+add-k : tie.Need-add-k Inv-loop μ-loop
+add-k c = search needs
+
+loop-less : tie.Need-loop-less Inv-loop μ-loop
+loop-less c = search needs
+
+loop-again : tie.Need-loop-again Inv-loop μ-loop
+loop-again c =
+    let put = c .before .before .put-row in
+    let loop = c .before .before .before .before .before .before .loop in
+    let start = c .before .before .before .before .before .before .before .before .before .before in
+    let a = start .args in
+    let names = a .order .names in
+    let T = now (a .table) in
+    let list = now (a .list) in
+    let g : ℕ → ℕ → Option ℕ = rowEdge T names list in
+    let k = loop .k in
+    let is : c .before .before .before .wide .result ≡ at names k = c .before .before .before .wide .ensures in
+    let turned : (s : ℕ) → List Edge = λ s. row (λ i. led list (look T s i)) k (a .m) in (
+      omega arith,
+      put .kept .1 .0 ∙ loop .inv .1,
+      omega (arith, put .ensures .1 .1, loop .inv .2, start .pre .4),
+      subst (λ (es : List Edge). Put (a .p) (now (a .part)) (a .bit) es (put .last .1 .0) (put .result)) (sym (listed-more g k (a .m)))
+          (put-behind (a .p) (now (a .part)) (a .bit) (listed g k (a .m)) (turned (at names k)) (loop .part) (put .last .1 .0) (loop .place) (put .result) (loop .inv .3)
+          (put .ensures .0 ∙ ap (λ (s : ℕ). putEdges (a .p) (loop .part) (loop .place) (turned s)) is)
+          (put .ensures .1 .0 ∙ ap (λ (s : ℕ). loop .place + edgeBits (a .p) * length (turned s)) is)),
+    )
+
+same-length : tie.Need-same-length Inv-loop μ-loop
+same-length c = c .before .loop .inv .1
+
+returns : tie.Need-returns Inv-loop μ-loop
+returns c =
+    let loop = c .before .loop in
+    let a = c .before .before .before .before .before .args in
+    let all : loop .k ≡ a .order .count = le-antisymm (loop .inv .0) (c .loop-test .left) in
+    loop .inv .3 .room ∙ ap (λ (k : ℕ). putEdges (a .p) (now (a .part)) (a .bit) (listed (rowEdge (now (a .table)) (a .order .names) (now (a .list))) k (a .m))) all
+
+pub put-rows-spec : {M : Type 1} → statement M
+put-rows-spec =
+    tie.close
+    (tie.spec
+    Inv-loop
+    μ-loop
+    loop-holds
+    mul-wide
+    array-read-wide
+    wide-requires
+    put-row-requires
+    add-k
+    loop-less
+    loop-again
+    same-length
+    returns)

@@ -1,0 +1,280 @@
+// The filter of classes: numbered, its edges gathered in the table, and written as a file.
+use file::Profile;
+use file::Reading;
+use file::edge::Edge;
+use file::layout;
+ghost use mathlib.Core.Path.{_≡_};
+ghost use mathlib.Core.List.{List};
+ghost use mathlib.Core.Option.{some};
+ghost use mathlib.Core.Bool.{true, _&&_};
+ghost use mathlib.Core.List.{_∷_, []};
+ghost use Prim.Native.Nat.{ℕ, _+_, _*_, _/_, _<_, _≤_, _^_};
+ghost use lib.Dec.{eqb};
+ghost use lib.ListN.{length, take, replicate};
+ghost use Rattle.meaning.specs.Search.{least, count, tab, at};
+ghost use Rattle.meaning.specs.Classes.{classes, number};
+ghost use Rattle.meaning.specs.Reduced.{nameOf, has, row, listed};
+ghost use Rattle.meaning.specs.Listing.{cells};
+ghost use Rattle.file.specs.Layout.{large, edgeBits, putEdges, lengthOf, written};
+ghost use Rattle.file.specs.Answers.{accepted};
+ghost use Rattle.file.specs.Refusals.{laid, writeOf};
+ghost use Rattle.file.specs.Code.{Usable};
+ghost use Rattle.table.specs.Table.{look};
+ghost use Rattle.merging.specs.Merged.{Whole, Within, Rows, Listed, led, rowEdge, filterOf, mergedBy, Foldable};
+
+// The classes by ascending name: how many, and the name of each.
+struct Order {
+    count: usize,
+    names: [u16; 256],
+}
+
+fn nameless() -> [u16; 256]
+    ensures { λ r. ⌜ length r ≡ 256 ⌝ }
+{
+    [65535; 256]
+}
+
+// Numbers the classes 0 upward by ascending name, and writes the number of each state.
+fn numbered(names: &[u16; 256], n: usize, list: &mut [u16]) -> Order
+    requires { ⌜ (n ≤ 256) × (length (now names) ≡ 256) × (n ≤ length (now list)) × Whole n (take n (now names)) ⌝ }
+    ensures list { λ r. ⌜ now (list .exit) ≡ laid (tab n (number (take n (now (names .entry))))) (now (list .entry)) ⌝ }
+    ensures count { λ r. ⌜ r .count ≡ classes n (take n (now (names .entry))) ⌝ }
+    ensures names { λ r. ⌜ ((k : ℕ) → k < r .count → at (r .names) k ≡ nameOf n (take n (now (names .entry))) k) ⌝ }
+{
+    let mut order = nameless();
+    let mut k: usize = 0;
+    let mut s: usize = 0;
+    while s < n {
+        let name = names[s];
+        if name == s as u16 {
+            order[k] = name;
+            list[s] = k as u16;
+            k += 1;
+        } else {
+            list[s] = list[wide(name)];
+        }
+        s += 1;
+    }
+    Order {
+        count: k,
+        names: order,
+    }
+}
+
+fn wide(x: u16) -> usize
+    ensures { λ r. ⌜ r ≡ x ⌝ }
+{
+    x as usize
+}
+
+fn colourless() -> [u8; 256]
+    ensures { λ r. ⌜ length r ≡ 256 ⌝ }
+{
+    [0; 256]
+}
+
+// The colour of each class: that of the state that names it.
+fn colours_by(colours: &[u8; 256], order: Order) -> [u8; 256]
+    requires { ⌜ (order .count ≤ 256) × (length (now colours) ≡ 256) × Rows (order .names) (order .count) ⌝ }
+    ensures { λ r. ⌜ (take (order .count) r ≡ tab (order .count) (λ k. at (now (colours .entry)) (at (order .names) k))) × (length r ≡ 256) ⌝ }
+{
+    let count = order.count;
+    let names = order.names;
+    let mut hues = colourless();
+    let mut k = 0;
+    while k < count {
+        hues[k] = colours[wide(names[k])];
+        k += 1;
+    }
+    hues
+}
+
+// Gives the state that names a class the edges of all its members: at each label that of the first member that has one.
+fn gather(table: &mut [u16; 16384], names: &[u16; 256], m: usize, n: usize)
+    requires { ⌜ (m ≤ 64) × (n ≤ 256) × (length (now table) ≡ 16384) × (length (now names) ≡ 256) × Whole n (take n (now names)) × Within (look (now table)) n m ⌝ }
+    ensures { λ _. ⌜ (length (now (table .exit)) ≡ 16384) × Within (look (now (table .exit))) n m × ((c y : ℕ) → c < n → at (take n (now (names .entry))) c ≡ c → y < m → look (now (table .exit)) c y ≡ look (now (table .entry)) (least (λ s. eqb (at (take n (now (names .entry))) s) c && has (look (now (table .entry)) s y)) n) y) ⌝ }
+{
+    let mut s: usize = 0;
+    while s < n {
+        let c = wide(names[s]);
+        if c != s {
+            table::give(table, s, c, m);
+        }
+        s += 1;
+    }
+}
+
+// How many edges a state has.
+fn row_length(table: &[u16; 16384], s: usize, m: usize) -> usize
+    requires { ⌜ (s < 256) × (m ≤ 64) ⌝ }
+    ensures { λ r. ⌜ (r ≡ count (λ y. has (look (now (table .entry)) s y)) m) × (r ≤ m) ⌝ }
+{
+    let mut e = 0;
+    let mut y = 0;
+    while y < m {
+        if table::entry(table, s, y) < 256 {
+            e += 1;
+        }
+        y += 1;
+    }
+    e
+}
+
+// How many edges the classes have.
+fn edge_count(table: &[u16; 16384], order: Order, m: usize) -> usize
+    requires { ⌜ (order .count ≤ 256) × (m ≤ 64) × Rows (order .names) (order .count) ⌝ }
+    ensures { λ r. ⌜ (r ≡ cells (λ k y. has (look (now (table .entry)) (at (order .names) k) y)) (order .count) m) × (r ≤ 16384) ⌝ }
+{
+    let count = order.count;
+    let names = order.names;
+    let mut e = 0;
+    let mut k = 0;
+    while k < count {
+        e += row_length(table, wide(names[k]), m);
+        k += 1;
+    }
+    e
+}
+
+// Writes the edges of state s as those of class k from a bit on, labels ascending, and answers the bit behind them.
+fn put_row(
+    p: Profile,
+    part: &mut [u8],
+    bit: usize,
+    table: &[u16; 16384],
+    s: usize,
+    k: usize,
+    m: usize,
+    list: &[u16],
+) -> usize
+    requires { ⌜ Usable p × (bit ≤ 2 ^ 32) × (s < 256) × (k < 2 ^ p .states) × (m ≤ 64) × (m ≤ 2 ^ p .labels) × Listed (now table) (now list) (2 ^ p .states) ⌝ }
+    ensures edges { λ r. ⌜ now (part .exit) ≡ putEdges p (now (part .entry)) bit (row (λ y. led (now (list .entry)) (look (now (table .entry)) s y)) k m) ⌝ }
+    ensures behind { λ r. ⌜ (r ≡ bit + edgeBits p * length (row (λ y. led (now (list .entry)) (look (now (table .entry)) s y)) k m)) × (r ≤ bit + 24 * m) ⌝ }
+{
+    let width = layout::edge_bits(p);
+    let mut place = bit;
+    let mut y = 0;
+    while y < m {
+        let to = table::entry(table, s, y);
+        if to < 256 {
+            let edge = Edge {
+                source: k,
+                label: y,
+                target: wide(list[to]),
+            };
+            file::edge::put(p, part, place, edge);
+            place += width;
+        }
+        y += 1;
+    }
+    place
+}
+
+// Writes the edges of all classes from a bit on, in file order.
+fn put_rows(
+    p: Profile,
+    part: &mut [u8],
+    bit: usize,
+    table: &[u16; 16384],
+    order: Order,
+    m: usize,
+    list: &[u16],
+)
+    requires { ⌜ Usable p × (bit ≤ 7) × (order .count ≤ 256) × (order .count ≤ 2 ^ p .states) × (m ≤ 64) × (m ≤ 2 ^ p .labels) × Rows (order .names) (order .count) × Listed (now table) (now list) (2 ^ p .states) ⌝ }
+    ensures { λ _. ⌜ now (part .exit) ≡ putEdges p (now (part .entry)) bit (listed (rowEdge (now (table .entry)) (order .names) (now (list .entry))) (order .count) m) ⌝ }
+{
+    let count = order.count;
+    let names = order.names;
+    let mut place = bit;
+    let mut k = 0;
+    while k < count {
+        place = put_row(p, part, place, table, wide(names[k]), k, m, list);
+        k += 1;
+    }
+}
+
+// The edges stand behind the colours, from a bit on: the room's later part is lent on, with the starting bit inside its first byte.
+fn put_edges(
+    p: Profile,
+    room: &mut [u8],
+    bit: usize,
+    table: &[u16; 16384],
+    order: Order,
+    m: usize,
+    list: &[u16],
+)
+    requires { ⌜ Usable p × (bit / 8 ≤ length (now room)) × (order .count ≤ 256) × (order .count ≤ 2 ^ p .states) × (m ≤ 64) × (m ≤ 2 ^ p .labels) × Rows (order .names) (order .count) × Listed (now table) (now list) (2 ^ p .states) ⌝ }
+    ensures { λ _. ⌜ now (room .exit) ≡ putEdges p (now (room .entry)) bit (listed (rowEdge (now (table .entry)) (order .names) (now (list .entry))) (order .count) m) ⌝ }
+{
+    let from = bit / 8;
+    put_rows(p, &mut room[from..], bit % 8, table, order, m, list);
+}
+
+// Writes the file of the classes into a room that holds it, and answers its length.
+fn write(
+    p: Profile,
+    room: &mut [u8],
+    hues: &[u8],
+    start: usize,
+    table: &[u16; 16384],
+    order: Order,
+    m: usize,
+    list: &[u16],
+) -> usize
+    requires { ⌜ Usable p × (order .count ≡ length (now hues)) × (m ≤ 64) × Rows (order .names) (order .count) × Listed (now table) (now list) (2 ^ p .states) × (writeOf p (filterOf (now hues) m start (rowEdge (now table) (order .names) (now list)) (order .count)) true (length (now room)) ≡ accepted (lengthOf p (filterOf (now hues) m start (rowEdge (now table) (order .names) (now list)) (order .count)) ∷ [])) ⌝ }
+    ensures bytes { λ r. ⌜ now (room .exit) ≡ laid (written p (filterOf (now (hues .entry)) m start (rowEdge (now (table .entry)) (order .names) (now (list .entry))) (order .count))) (now (room .entry)) ⌝ }
+    ensures length { λ r. ⌜ r ≡ lengthOf p (filterOf (now (hues .entry)) m start (rowEdge (now (table .entry)) (order .names) (now (list .entry))) (order .count)) ⌝ }
+{
+    let k = order.count;
+    let e = edge_count(table, order, m);
+    file::header::put(p, room, k, m, start, e);
+    bits::put_run(room, layout::header_bits(p), p.colour, hues);
+    put_edges(p, room, layout::edges_begin(p, k), table, order, m, list);
+    file::fill(p, room, k, e);
+    layout::bytes_for(layout::file_bits(p, k, e))
+}
+
+// How many classes there are, and the length of their file.
+pub struct Made {
+    pub states: usize,
+    pub length: usize,
+}
+
+// Writes the file of the classes with these names, and the number of each state.
+pub fn merged(
+    edges: [u16; 16384],
+    colours: &[u8; 256],
+    names: [u16; 256],
+    reading: Reading,
+    answer: &mut [u8],
+    list: &mut [u16],
+) -> Made
+    requires { ⌜ Foldable edges (now colours) names reading (length (now answer)) (length (now list)) ⌝ }
+    ensures answer { λ r. ⌜ now (answer .exit) ≡ laid (written large (mergedBy edges (now (colours .entry)) names reading)) (now (answer .entry)) ⌝ }
+    ensures list { λ r. ⌜ now (list .exit) ≡ laid (tab (reading .states) (number (take (reading .states) names))) (now (list .entry)) ⌝ }
+    ensures counts { λ r. ⌜ (r .states ≡ classes (reading .states) (take (reading .states) names)) × (r .length ≡ lengthOf large (mergedBy edges (now (colours .entry)) names reading)) ⌝ }
+{
+    let m = reading.labels;
+    let n = reading.states;
+    let mut table = edges;
+    let order = numbered(&names, n, list);
+    gather(&mut table, &names, m, n);
+    let hues = colours_by(colours, order);
+    let count = order.count;
+    let first = reading.start;
+    let start = wide(list[first]);
+    let length = write(
+        file::large(),
+        answer,
+        &hues[..count],
+        start,
+        &table,
+        order,
+        m,
+        list,
+    );
+    Made {
+        states: count,
+        length,
+    }
+}

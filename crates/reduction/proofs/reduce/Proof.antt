@@ -1,0 +1,117 @@
+-- `reduction::reduce` meets its contract: the check's answer decides, then the rooms, and then the file is reduced. Assumes nothing.
+use mathlib.Core.Path.{_≡_, ap, sym, _∙_}
+use mathlib.Core.List.{List, _∷_, []}
+use Prim.Native.Nat.{ℕ}
+use native.Mathlib.Omega.{arith}
+use borrow.Author.Needs.{needs}
+use borrow.Author.Tests.{lt-ltb, le-ltb}
+use denote.Ref.{now}
+use lib.Dec.{ltb}
+use lib.ListN.{length}
+use Rattle.file.specs.declared.Reading.{Reading}
+use Rattle.file.specs.Layout.{large}
+use Rattle.file.specs.Contents.{statesIn}
+use Rattle.file.specs.Answers.{accepted, checkedOutcome}
+use Rattle.file.specs.Refusals.{onward}
+use Rattle.file.proofs.Calls.{ReadIs, read-is}
+use Rattle.reduction.specs.declared.Reduced.the-variants as reduced
+use Rattle.reduction.proofs.Calls.{reduce-refused, reduce-short, reduce-few, reduce-folded}
+use Rattle.reduction.proofs.reduce.Statement.{statement}
+use Rattle.reduction.proofs.reduce.Tie as tie
+
+-- ---- the places of the code, back to the start
+
+abbrev started : tie.After-check → tie.Start
+started c = c .before .before .before .before
+
+abbrev checked₁ : tie.After-known-told → tie.After-check
+checked₁ c = c .before .before .before
+
+abbrev file : tie.After-check → List ℕ
+file c = now (started c .args .file)
+
+abbrev answer : tie.After-check → List ℕ
+answer c = now (started c .args .answer)
+
+abbrev classes : tie.After-check → List ℕ
+classes c = now (started c .args .classes)
+
+abbrev reading : tie.After-known-told → Reading
+reading c = c .before .checked .given .0 .0
+
+is-read : (c : tie.After-known-told) → ReadIs large (file (checked₁ c)) (reading c)
+is-read c = let k = checked₁ c in read-is large (file k) (k .check .result) (k .check .ensures) (reading c) (c .before .checked .given .1)
+
+check-requires : tie.Need-check-requires
+check-requires c κs = search needs
+
+enum-known-checked : tie.Need-enum-known-checked
+enum-known-checked c = search needs
+
+enum-told : tie.Need-enum-told
+enum-told c = search needs
+
+passed-on-requires : tie.Need-passed-on-requires
+passed-on-requires c κs = search needs
+
+returns : tie.Need-returns
+returns c =
+    let k = c .before .before .before in
+    let is = c .before .enum-told .given .1 in
+    reduce-refused large (file k) (answer k) (classes k) (c .before .enum-told .given .0 .0) (c .passed-on .result) (sym (k .check .ensures) ∙ ap checkedOutcome is)
+    (c .passed-on .ensures ∙ ap (λ o. onward (checkedOutcome o) (accepted (0 ∷ 0 ∷ 0 ∷ 0 ∷ []))) is)
+
+refused-requires : tie.Need-refused-requires
+refused-requires c κs = search needs
+
+returns-2 : tie.Need-returns-2
+returns-2 c =
+    let told = c .before .before in
+    let k = checked₁ told in
+    rw (c .refused .ensures) (reduce-short large (file k) (answer k) (classes k) _ (is-read told .answer) (c .before .if1 .taken))
+
+refused-requires-2 : tie.Need-refused-requires-2
+refused-requires-2 c κs = search needs
+
+returns-3 : tie.Need-returns-3
+returns-3 c =
+    let told = c .before .before .before .before in
+    let k = checked₁ told in
+    let is = is-read told in
+    rw (c .refused2 .ensures) (reduce-few large (file k) (answer k) (classes k) _ (is .answer) (c .before .before .before .if1 .left) (omega (arith, c .before .if2 .taken, is .states-are)))
+
+fold-requires : tie.Need-fold-requires
+fold-requires c κs = let told = c .before .before .before .before .before in (is-read told .answer, c .before .before .before .before .if1 .left, c .before .before .if2 .left)
+
+same-length : tie.Need-same-length
+same-length c = search needs
+
+same-length-2 : tie.Need-same-length-2
+same-length-2 c = search needs
+
+returns-4 : tie.Need-returns-4
+returns-4 c =
+    let fold = c .before .before .before .before .fold in
+    let told = c .before .before .before .before .before .before .before .before .before .before in
+    let k = checked₁ told in
+    let is = is-read told in
+    reduce-folded large (file k) (answer k) (classes k) _ (is .answer) (c .before .before .before .before .before .before .before .before .before .if1 .left) (omega (arith, c .before .before .before .before .before .before .before .if2 .left, is .states-are)) (fold .result)
+    (fold .last .1 .1 .0) (fold .last .1 .1 .1 .0) (fold .ensures .0) (fold .ensures .1 .0) (fold .ensures .1 .1)
+
+pub reduce-spec : {M : Type 1} → statement M
+reduce-spec =
+    tie.close
+    (tie.spec
+    check-requires
+    enum-known-checked
+    enum-told
+    passed-on-requires
+    returns
+    refused-requires
+    returns-2
+    refused-requires-2
+    returns-3
+    fold-requires
+    same-length
+    same-length-2
+    returns-4)

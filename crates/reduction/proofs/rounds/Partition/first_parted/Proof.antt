@@ -1,0 +1,68 @@
+-- `reduction::rounds::Partition::first_parted` meets its contract. Assumes nothing.
+use Prim.Native.Nat.{_≤_, _-_}
+use native.Mathlib.Omega.{arith}
+use mathlib.Core.Path.{sym, _∙_}
+use borrow.Author.Needs.{needs}
+use Rattle.meaning.specs.Search.{least}
+use Rattle.meaning.specs.SearchLaws.{least-next, least-here, least-gone}
+use Rattle.meaning.specs.Classes.{parted}
+use Rattle.reduction.specs.Rounds.{clash}
+use Rattle.reduction.proofs.Laws.{parted-none, parted-pair, first-least}
+use Rattle.reduction.proofs.rounds.Partition.first_parted.Statement.{statement}
+use Rattle.reduction.proofs.rounds.Partition.first_parted.Tie as tie
+
+abbrev Inv-loop : tie.InvT-loop
+Inv-loop self table m n c₀ c = (c ≤ n) × (c ≤ least (parted n (clash table m (self .names)) (self .names)) n)
+
+abbrev μ-loop : tie.MeasureT-loop
+μ-loop self table m n c₀ c = n - c
+
+loop-holds : tie.Need-loop-holds Inv-loop μ-loop
+loop-holds c = (omega arith, omega arith)
+
+cast-pair-in : tie.Need-cast-pair-in Inv-loop μ-loop
+cast-pair-in c = search needs
+
+pair-in-requires : tie.Need-pair-in-requires Inv-loop μ-loop
+pair-in-requires c κs = search needs
+
+enum-told : tie.Need-enum-told Inv-loop μ-loop
+enum-told c = search needs
+
+returns : tie.Need-returns Inv-loop μ-loop
+returns c =
+    first-least _ _ _ _
+    (least-here _ _ _ (c .before .before .before .before .loop .inv .1) (parted-pair _ _ _ _ _ _ (sym (c .enum-told .given .1) ∙ c .before .before .pair-in .ensures)))
+
+enum-told-2 : tie.Need-enum-told-2 Inv-loop μ-loop
+enum-told-2 c = search needs
+
+add-c : tie.Need-add-c Inv-loop μ-loop
+add-c c = search needs
+
+loop-less : tie.Need-loop-less Inv-loop μ-loop
+loop-less c = search needs
+
+loop-again : tie.Need-loop-again Inv-loop μ-loop
+loop-again c =
+    (omega arith, least-next _ _ _ (c .before .before .before .before .loop .inv .1) (omega arith) (parted-none _ _ _ _ (sym (c .enum-told2 .given .1) ∙ c .before .before .pair-in .ensures)))
+
+returns-2 : tie.Need-returns-2 Inv-loop μ-loop
+returns-2 c = first-least _ _ _ _ (least-gone _ _ _ (c .before .loop .inv .1) (omega arith))
+
+pub first-parted-spec : {M : Type 1} → statement M
+first-parted-spec =
+    tie.close
+    (tie.spec
+    Inv-loop
+    μ-loop
+    loop-holds
+    cast-pair-in
+    pair-in-requires
+    enum-told
+    returns
+    enum-told-2
+    add-c
+    loop-less
+    loop-again
+    returns-2)

@@ -1,0 +1,222 @@
+//! The proved programs `reduce` and `shrink`, run as processes, print what the second one says.
+
+mod common;
+#[path = "common/outputs.rs"]
+mod outputs;
+
+use common::{at_once, program, run, whole};
+use outputs::{in_pieces, run_on, some, wrote, Folder};
+use second::case::{Call, Case};
+use second::file::{write, Header};
+use second::kinds::{self, Kind};
+use second::make::chains::plain;
+use second::make::filters::largest;
+use second::make::{files, reduces};
+use second::program::{reduce, shrink, MOST_OF_A_FILE};
+use second::random::{seed, Random};
+use second::rides::*;
+use std::collections::BTreeSet;
+use std::time::Duration;
+
+const LEAST_FILES: usize = 500;
+
+/// A program that reads a file from standard input, and what it should write for it.
+struct Program {
+    name: &'static str,
+    own: fn(&[u8]) -> Vec<u8>,
+}
+
+const PROGRAMS: [Program; 2] = [
+    Program {
+        name: "reduce",
+        own: |file| reduce(file).into_bytes(),
+    },
+    Program {
+        name: "shrink",
+        own: shrink,
+    },
+];
+
+impl Program {
+    fn agrees(&self, ran: &common::Ran, what: &str, file: &[u8]) {
+        wrote(ran, self.name, what, &(self.own)(file), &[("filter", file)]);
+    }
+
+    /// Runs it on a file that is there at once, and gives back what it wrote.
+    fn agrees_on(&self, what: &str, file: &[u8]) -> Vec<u8> {
+        let ran = run(program(self.name), whole(file.to_vec()), at_once);
+        self.agrees(&ran, what, file);
+        ran.stdout
+    }
+}
+
+fn agree_on(what: &str, file: &[u8]) {
+    for program in PROGRAMS {
+        program.agrees_on(what, file);
+    }
+}
+
+/// What document 01 prints, or says of its rides.
+#[test]
+fn the_document_s_files() {
+    let [l, m, n, p] = [ride_l(), ride_m(), ride_n(), ride_p()].map(|ride| write(&ride));
+    let l_reduced = write(&filter_of(&[0], &[(0, 0, 0)]));
+    for (file, text, bytes) in [
+        (K, "3 2 2 0\n0 0\n1 1\n2 1\n", K_REDUCED),
+        (K_REDUCED, "2 2 2 0\n0 0\n1 1\n", K_REDUCED),
+        (&l, "2 1 1 0\n0 0\n1 0\n", &l_reduced),
+        (&m, "4 4 2 1\n0 0\n1 1\n2 2\n3 3\n", &m),
+        (&n, "7 7 5 2\n0 0\n1 1\n2 2\n3 3\n4 4\n5 5\n6 6\n", &n),
+        (&p, "3 3 2 1\n0 0\n1 1\n2 2\n", &p),
+        (C, "1 1 1 0\n0 0\n", C),
+        (A, "refused 1 0\n", &[]),
+        (B, "refused 4 0\n", &[]),
+        (D, "refused 5 0\n", &[]),
+        (E, "refused 2 0\n", &[]),
+        (F, "refused 3 0\n", &[]),
+        (G, "refused 4 0\n", &[]),
+        (H, "refused 6 0\n", &[]),
+    ] {
+        for (name, expected) in [("reduce", text.as_bytes()), ("shrink", bytes)] {
+            let ran = run(program(name), whole(file.to_vec()), at_once);
+            wrote(&ran, name, "a ride", expected, &[("filter", file)]);
+        }
+    }
+}
+
+/// Files of every family, and their families' names.
+fn files_of_all_families(
+    random: &mut Random,
+    of_a_file_family: usize,
+    of_a_reduce_family: usize,
+) -> Vec<(&'static str, Vec<u8>)> {
+    let mut all = Vec::new();
+    for family in files::FAMILIES {
+        for file in some(random, of_a_file_family, family.make) {
+            all.push((family.name, file));
+        }
+    }
+    for family in reduces::FAMILIES {
+        for case in some(random, of_a_reduce_family, family.make) {
+            all.push((family.name, case.a));
+        }
+    }
+    all
+}
+
+/// Every refusal that a file can have, at every place, and every kind of reduction among them.
+#[test]
+fn files_agree() {
+    let seed = seed();
+    println!("SEED={seed}");
+    let mut random = Random::new(seed);
+    let files = files_of_all_families(&mut random, 30, 8);
+    println!("{} files", files.len());
+    assert!(files.len() >= LEAST_FILES, "only {} files", files.len());
+    let mut seen = BTreeSet::new();
+    for (nth, (family, file)) in files.into_iter().enumerate() {
+        agree_on(&format!("SEED={seed}, file {nth}, family: {family}"), &file);
+        seen.extend(kinds_of(file));
+    }
+    let of_the_rooms = [
+        Kind::Number(Call::Reduce, 10),
+        Kind::Number(Call::Reduce, 11),
+        Kind::BothShort,
+    ];
+    let missing: Vec<Kind> = kinds::all_of(Call::Reduce)
+        .into_iter()
+        // The programs' rooms are always enough.
+        .filter(|kind| !of_the_rooms.contains(kind) && !seen.contains(kind))
+        .collect();
+    assert!(missing.is_empty(), "SEED={seed} never led to {missing:?}");
+}
+
+fn kinds_of(mut file: Vec<u8>) -> Vec<Kind> {
+    file.truncate(MOST_OF_A_FILE);
+    let answer_room = vec![0; file.len()];
+    let entries = Header::of(&file).map_or(0, |header| header.n);
+    let case = Case::reduce(file, answer_room, vec![0; 2 * entries as usize]);
+    kinds::of(&case, &case.outcome())
+}
+
+/// What `shrink` wrote is a file that it takes and leaves as it is.
+#[test]
+fn shrunk_again() {
+    let seed = seed();
+    println!("SEED={seed}");
+    let mut random = Random::new(seed);
+    let [_, shrinks] = PROGRAMS;
+    let mut shrunk = 0;
+    for (family, file) in files_of_all_families(&mut random, 4, 4) {
+        let what = format!("SEED={seed}, family: {family}");
+        let once = shrinks.agrees_on(&what, &file);
+        if once.is_empty() {
+            continue;
+        }
+        let twice = shrinks.agrees_on(&format!("{what}, shrunk again"), &once);
+        assert!(twice == once, "{what}: not the same when shrunk again");
+        shrunk += u32::from(once != file);
+    }
+    assert!(shrunk > 0, "SEED={seed}: no file was changed");
+}
+
+#[test]
+fn lengths_of_the_file() {
+    let mut random = Random::new(seed());
+    let full = write(&largest(&mut random));
+    assert_eq!(full.len(), 45_253);
+    for length in [45_252, 45_253, 45_254, 45_255, 60_000, 200_000] {
+        for ends_with in [0, 255] {
+            let mut file = full.clone();
+            file.resize(length, ends_with);
+            agree_on(&format!("the largest file as {length} bytes"), &file);
+        }
+        // 2 and 3 come before 5; noise has anything.
+        for begins_with in [C, E, F, &random.bytes(50)] {
+            let mut file = begins_with.to_vec();
+            file.resize(length, 0);
+            let what = format!("{:?} as {length} bytes", &begins_with[..5]);
+            agree_on(&what, &file);
+        }
+    }
+}
+
+/// No more is taken from a standard input than what counts.
+#[test]
+fn standard_input_is_left_where_the_file_ends() {
+    let folder = Folder::new("reduce-input-position");
+    for length in [0, 4, 18, 19, 45_253, 45_254, 45_255, 100_000] {
+        let mut file = K.to_vec();
+        file.resize(length, 0);
+        let input = folder.file("input.filter", &file);
+        for tried in PROGRAMS {
+            let (ran, taken) = run_on(program(tried.name), &input);
+            tried.agrees(&ran, &format!("{length} bytes"), &file);
+            assert_eq!(taken, length.min(MOST_OF_A_FILE) as u64, "{}", tried.name);
+        }
+    }
+}
+
+#[test]
+fn standard_input_in_small_pieces() {
+    let mut random = Random::new(seed());
+    let mut longer_than_the_largest = write(&largest(&mut random));
+    longer_than_the_largest.push(0);
+    let cut = &K[..17];
+    for (file, size) in [
+        (K, 1),
+        (K, 5),
+        (cut, 1),
+        (H, 1),
+        (&write(&ride_n()), 1),
+        (&write(&plain(256)), 7),
+        (&longer_than_the_largest[..45_253], 4_099),
+        (&longer_than_the_largest, 3_001),
+    ] {
+        for tried in PROGRAMS {
+            let feed = in_pieces(file.to_vec(), size, Duration::from_millis(2));
+            let ran = run(program(tried.name), feed, at_once);
+            tried.agrees(&ran, &format!("pieces of {size}"), file);
+        }
+    }
+}
