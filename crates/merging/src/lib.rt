@@ -94,13 +94,13 @@ fn gather(table: &mut [u16; 16384], names: &[u16; 256], m: usize, n: usize)
     requires { ⌜ (m ≤ 64) × (n ≤ 256) × (length (now table) ≡ 16384) × (length (now names) ≡ 256) × Whole n (take n (now names)) × Within (look (now table)) n m ⌝ }
     ensures { λ _. ⌜ (length (now (table .exit)) ≡ 16384) × Within (look (now (table .exit))) n m × ((c y : ℕ) → c < n → at (take n (now (names .entry))) c ≡ c → y < m → look (now (table .exit)) c y ≡ look (now (table .entry)) (least (λ s. eqb (at (take n (now (names .entry))) s) c && has (look (now (table .entry)) s y)) n) y) ⌝ }
 {
-    let mut s: usize = 0;
-    while s < n {
-        let c = wide(names[s]);
-        if c != s {
-            table::give(table, s, c, m);
+    let mut t: usize = 0;
+    while t < n {
+        let c = wide(names[t]);
+        if c != t {
+            table::give(table, t, c, m);
         }
-        s += 1;
+        t += 1;
     }
 }
 

@@ -14,10 +14,10 @@ use Rattle.merging.proofs.gather.Statement.{statement}
 use Rattle.merging.proofs.gather.Tie as tie
 
 abbrev Inv-loop : tie.InvT-loop
-Inv-loop table₀ names m n s₀ table s = (s ≤ n) × (length table ≡ 16384) × ((w : Whole n (take n names)) → Gathered table₀ names n m w table s)
+Inv-loop table₀ names m n t₀ table t = (t ≤ n) × (length table ≡ 16384) × ((w : Whole n (take n names)) → Gathered table₀ names n m w table t)
 
 abbrev μ-loop : tie.MeasureT-loop
-μ-loop table₀ names m n s₀ table s = n - s
+μ-loop table₀ names m n t₀ table t = n - t
 
 loop-holds : tie.Need-loop-holds Inv-loop μ-loop
 loop-holds c = (omega arith, c .pre .2, (λ w. gathered-begins _ _ _ _ w (c .pre .2) (c .pre .5)))
@@ -34,11 +34,11 @@ wide-requires c κs = search needs
 give-requires : tie.Need-give-requires Inv-loop μ-loop
 give-requires c κs =
     let start = c .before .before .before .before .before .before in
-    let low = whole-low (now (start .args .names)) (start .args .n) (start .pre .4) (c .before .before .before .before .before .loop .s) (c .before .before .before .before .loop-test .taken) in
-    (omega (arith, start .pre .1), omega (arith, low, c .before .before .wide .ensures, start .pre .1), start .pre .0, c .before .before .before .before .before .loop .inv .1)
+    let low = whole-low (now (start .args .names)) (start .args .n) (start .pre .4) (c .before .before .before .before .before .loop .t) (c .before .before .before .before .loop-test .taken) in
+    (omega (arith, start .pre .1), omega (arith, low, c .before .before .wide .ensures, start .pre .1), omega (arith, start .pre .0), c .before .before .before .before .before .loop .inv .1)
 
-add-s : tie.Need-add-s Inv-loop μ-loop
-add-s c = search needs
+add-t : tie.Need-add-t Inv-loop μ-loop
+add-t c = search needs
 
 loop-less : tie.Need-loop-less Inv-loop μ-loop
 loop-less c = search needs
@@ -53,7 +53,7 @@ loop-again c =
       ⊎-elim (λ v. ap length (v .3) ∙ v .2 .ensures .1) (λ v. ap length (v .1) ∙ loop .inv .1) (c .if1 .came),
       (λ w. ⊎-elim
           (λ v. rw (v .3) (gathered-given _ _ _ _ w _ _ (loop .inv .2 w) taken _ (λ e. v .0 .taken (is ∙ e)) (v .2 .ensures .1)
-          (v .2 .ensures .0 ∙ ap (λ (d : ℕ). given (look (loop .table)) (loop .s) d (start .args .m)) is)))
+          (v .2 .ensures .0 ∙ ap (λ (d : ℕ). given (look (loop .table)) (loop .t) d (start .args .m)) is)))
           (λ v. rw (v .1) (gathered-own _ _ _ _ w _ _ (loop .inv .2 w) taken (sym is ∙ v .0 .left)))
           (c .if1 .came)),
     )
@@ -65,7 +65,7 @@ returns c =
     let a = start .args in
     let names = now (a .names) in
     let w = start .pre .4 in
-    let all : loop .s ≡ a .n = le-antisymm (loop .inv .0) (c .loop-test .left) in
+    let all : loop .t ≡ a .n = le-antisymm (loop .inv .0) (c .loop-test .left) in
     let r : Gathered (now (a .table)) names (a .n) (a .m) w (loop .table) (a .n) = subst (Gathered (now (a .table)) names (a .n) (a .m) w (loop .table)) all (loop .inv .2 w) in
     (loop .inv .1, r .within, λ k y h o l. gathered-ends (now (a .table)) names (a .n) (a .m) w (loop .table) (start .pre .5) r k y h o l)
 
@@ -80,7 +80,7 @@ gather-spec =
     element-copy-out-wide
     wide-requires
     give-requires
-    add-s
+    add-t
     loop-less
     loop-again
     returns)

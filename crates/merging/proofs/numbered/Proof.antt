@@ -2,7 +2,7 @@
 use mathlib.Core.Path.{_≡_, refl, sym, ap, _∙_}
 use mathlib.Core.List.{List, _++_}
 use mathlib.Core.Logic.{⊎-elim}
-use Prim.Native.Nat.{ℕ, _-_, _≤_}
+use Prim.Native.Nat.{ℕ, _-_, _≤_, _<_}
 use native.Mathlib.Nat.{le-antisymm}
 use native.Mathlib.Omega.{arith}
 use borrow.Author.Needs.{needs}
@@ -26,7 +26,8 @@ abbrev μ-loop : tie.MeasureT-loop
 name-low : (c : tie.Else1 Inv-loop μ-loop) → at (now (c .before .before .before .before .before .before .args .names)) (c .before .before .before .loop .s) ≤ c .before .before .before .loop .s
 name-low c =
     let start = c .before .before .before .before .before .before in
-    whole-low (now (start .args .names)) (start .args .n) (start .pre .3) (c .before .before .before .loop .s) (c .before .before .loop-test .taken)
+    whole-low (now (start .args .names)) (start .args .n) (start .pre .3) (c .before .before .before .loop .s)
+    (omega (arith, c .before .before .loop-test .taken, c .before .before .before .loop .inv .0))
 
 nameless-requires : tie.Need-nameless-requires Inv-loop μ-loop
 nameless-requires c κs = search needs
@@ -87,7 +88,7 @@ loop-again c =
     let loop = c .before .before .before .loop in
     let start = c .before .before .before .before .before .before in
     let small = start .pre .0 in
-    let taken = c .before .before .loop-test .taken in (
+    let taken : loop .s < start .args .n = omega (arith, c .before .before .loop-test .taken, loop .inv .0) in (
       omega arith,
       ⊎-elim (λ v. omega (arith, v .3)) (λ v. omega (arith, v .5)) (c .if1 .came),
       (λ w enough. ⊎-elim

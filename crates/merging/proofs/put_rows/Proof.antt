@@ -46,8 +46,8 @@ put-row-requires c κs =
       omega (arith, loop .inv .2, loop .inv .0, pre .1, pre .2),
       rw (c .wide .ensures) (pre .6 (loop .k) (c .before .before .loop-test .taken)),
       omega (arith, pre .3, c .before .before .loop-test .taken),
-      pre .4,
-      pre .5,
+      omega (arith, pre .4),
+      omega (arith, pre .5),
       pre .7,
     )
 
