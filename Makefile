@@ -5,8 +5,8 @@ FILE ?= examples/k.filter
 
 run:
 	@mkdir -p target
-	@rt check reading >target/run.log 2>&1 || { cat target/run.log; exit 1; }
-	@.ci/run-bin target/bin/reading <"$(FILE)"
+	@rt check reduce >target/run.log 2>&1 || { cat target/run.log; exit 1; }
+	@.ci/run-bin target/bin/reduce <"$(FILE)"
 
 test:
 	@.ci/run

@@ -240,25 +240,24 @@ pub struct Made {
     pub length: usize,
 }
 
-// Writes the file of the classes with these names, and the number of each state.
+// Writes the file of the classes with these names, and the number of each state. The edges are gathered in the table itself.
 pub fn merged(
-    edges: [u16; 16384],
+    table: &mut [u16; 16384],
     colours: &[u8; 256],
-    names: [u16; 256],
+    names: &[u16; 256],
     reading: Reading,
     answer: &mut [u8],
     list: &mut [u16],
 ) -> Made
-    requires { ⌜ Foldable edges (now colours) names reading (length (now answer)) (length (now list)) ⌝ }
-    ensures answer { λ r. ⌜ now (answer .exit) ≡ laid (written large (mergedBy edges (now (colours .entry)) names reading)) (now (answer .entry)) ⌝ }
-    ensures list { λ r. ⌜ now (list .exit) ≡ laid (tab (reading .states) (number (take (reading .states) names))) (now (list .entry)) ⌝ }
-    ensures counts { λ r. ⌜ (r .states ≡ classes (reading .states) (take (reading .states) names)) × (r .length ≡ lengthOf large (mergedBy edges (now (colours .entry)) names reading)) ⌝ }
+    requires { ⌜ Foldable (now table) (now colours) (now names) reading (length (now answer)) (length (now list)) ⌝ }
+    ensures answer { λ r. ⌜ now (answer .exit) ≡ laid (written large (mergedBy (now (table .entry)) (now (colours .entry)) (now (names .entry)) reading)) (now (answer .entry)) ⌝ }
+    ensures list { λ r. ⌜ now (list .exit) ≡ laid (tab (reading .states) (number (take (reading .states) (now (names .entry))))) (now (list .entry)) ⌝ }
+    ensures counts { λ r. ⌜ (r .states ≡ classes (reading .states) (take (reading .states) (now (names .entry)))) × (r .length ≡ lengthOf large (mergedBy (now (table .entry)) (now (colours .entry)) (now (names .entry)) reading)) ⌝ }
 {
     let m = reading.labels;
     let n = reading.states;
-    let mut table = edges;
-    let order = numbered(&names, n, list);
-    gather(&mut table, &names, m, n);
+    let order = numbered(names, n, list);
+    gather(table, names, m, n);
     let hues = colours_by(colours, order);
     let count = order.count;
     let first = reading.start;
@@ -268,7 +267,7 @@ pub fn merged(
         answer,
         &hues[..count],
         start,
-        &table,
+        table,
         order,
         m,
         list,

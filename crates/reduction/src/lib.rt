@@ -83,12 +83,13 @@ fn fold(file: &[u8], reading: Reading, answer: &mut [u8], classes: &mut [u16]) -
     ensures answer { λ r. ⌜ now (answer .exit) ≡ laid (written large (reduced (filterIn large (now (file .entry))))) (now (answer .entry)) ⌝ }
     ensures classes { λ r. ⌜ now (classes .exit) ≡ laid (classList (filterIn large (now (file .entry)))) (now (classes .entry)) ⌝ }
 {
-    let table = table::table_of(file, reading);
+    let mut table = table::empty();
+    table::fill(&mut table, file, reading);
     let colours = table::colours_of(file, reading);
     let ending = rounds::settled(&table, &colours, reading.labels, reading.states);
     let last = ending.last;
     let names = last.names;
-    let made = merging::merged(table, &colours, names, reading, answer, classes);
+    let made = merging::merged(&mut table, &colours, &names, reading, answer, classes);
     Counts {
         states: made.states,
         colours: ending.colours,

@@ -17,29 +17,28 @@ ghost use Rattle.file.specs.Code.{Usable};
 ghost use Rattle.table.specs.Table.{look, given};
 
 // A table without edges.
-fn empty() -> [u16; 16384]
+pub fn empty() -> [u16; 16384]
     ensures { λ r. ⌜ (r ≡ replicate 16384 65535) × (length r ≡ 16384) ⌝ }
 {
     [65535; 16384]
 }
 
-// The table of a file that was checked, with what the check read.
-pub fn table_of(file: &[u8], reading: Reading) -> [u16; 16384]
-    requires { ⌜ checkOf large (now file) ≡ readingOutcome reading ⌝ }
-    ensures { λ r. ⌜ (look r ≡ edge (filterIn large (now (file .entry)))) × (length r ≡ 16384) ⌝ }
+// Fills an empty table with the edges of a file that was checked. The table is lent, so that a call has it on its stack once.
+pub fn fill(table: &mut [u16; 16384], file: &[u8], reading: Reading)
+    requires { ⌜ (checkOf large (now file) ≡ readingOutcome reading) × (now table ≡ replicate 16384 65535) ⌝ }
+    ensures { λ _. ⌜ (look (now (table .exit)) ≡ edge (filterIn large (now (file .entry)))) × (length (now (table .exit)) ≡ 16384) ⌝ }
 {
     let p = file::large();
     let at = layout::edges_begin(p, reading.states);
-    filled(p, file, at, reading.edges)
+    fill_from(table, p, file, at, reading.edges);
 }
 
-// The table of e edges from bit `at` on.
-fn filled(p: Profile, file: &[u8], at: usize, e: usize) -> [u16; 16384]
-    requires { ⌜ Usable p × (p .labels ≤ 6) × (at ≤ 2096) × (e ≤ 65536) × (ascending (edgesFrom p (now file) at e) ≡ true) ⌝ }
-    ensures { λ r. ⌜ (look r ≡ target (edgesFrom p (now (file .entry)) at e)) × (length r ≡ 16384) ⌝ }
+// The same with e edges from bit `at` on.
+fn fill_from(table: &mut [u16; 16384], p: Profile, file: &[u8], at: usize, e: usize)
+    requires { ⌜ Usable p × (p .labels ≤ 6) × (at ≤ 2096) × (e ≤ 65536) × (ascending (edgesFrom p (now file) at e) ≡ true) × (now table ≡ replicate 16384 65535) ⌝ }
+    ensures { λ _. ⌜ (look (now (table .exit)) ≡ target (edgesFrom p (now (file .entry)) at e)) × (length (now (table .exit)) ≡ 16384) ⌝ }
 {
     let width = layout::edge_bits(p);
-    let mut table = empty();
     let mut place = at;
     let mut i = 0;
     while i < e {
@@ -51,7 +50,6 @@ fn filled(p: Profile, file: &[u8], at: usize, e: usize) -> [u16; 16384]
         place += width;
         i += 1;
     }
-    table
 }
 
 fn no_colours() -> [u8; 256]

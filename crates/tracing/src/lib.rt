@@ -46,7 +46,8 @@ pub fn trace(file: &[u8], observations: &[u8], colours: &mut [u8]) -> Traced
     if outside < count {
         return refused(Kind::Observation, outside);
     }
-    let table = table::table_of(file, reading);
+    let mut table = table::empty();
+    table::fill(&mut table, file, reading);
     let hues = table::colours_of(file, reading);
     let start = reading.start;
     ride_through(&table, &hues, start, observations, colours)

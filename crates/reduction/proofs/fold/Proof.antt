@@ -24,40 +24,50 @@ is-read : (c : tie.Start) → ReadIs large (now (c .args .file)) (c .args .readi
 is-read c = reading-is large (now (c .args .file)) (c .args .reading) (c .pre .0)
 
 -- the names at the end are the filter's
-ended : (c : tie.After-settled) → take (c .before .before .before .before .before .before .before .before .args .reading .states) (c .settled .result .last .names) ≡ reduce (filterIn large (now (c .before .before .before .before .before .before .before .before .args .file))) .names
+ended : (c : tie.After-settled) →
+    take (c .before .before .before .before .before .before .before .before .before .before .args .reading .states) (c .settled .result .last .names) ≡ reduce (filterIn large (now (c .before .before .before .before .before .before .before .before .before .before .args .file))) .names
 ended c =
-    let start = c .before .before .before .before .before .before .before .before in
+    let start = c .before .before .before .before .before .before .before .before .before .before in
     let a = start .args in
+    let table = c .before .before .before .before .fill in
+    let colours = c .before .before .before .colours-of in
     c .settled .ensures .1 .1 .0
-    ∙ ap (λ (Q : Classes). Q .names) (reduce-is (now (a .file)) (a .reading) (is-read start) (c .before .before .before .before .table-of .result) (c .before .before .before .colours-of .result) (c .before .before .before .before .table-of .ensures .0) (c .before .before .before .colours-of .ensures .0))
+    ∙ ap (λ (Q : Classes). Q .names) (reduce-is (now (a .file)) (a .reading) (is-read start) (table .last .0) (colours .result) (table .ensures .0) (colours .ensures .0))
 
-table-of-requires : tie.Need-table-of-requires
-table-of-requires c κs = search needs
+empty-requires : tie.Need-empty-requires
+empty-requires c κs = search needs
+
+fill-requires : tie.Need-fill-requires
+fill-requires c κs = (is-read (c .before .before .before .before .before) .answer, c .before .empty .ensures .0)
 
 colours-of-requires : tie.Need-colours-of-requires
-colours-of-requires c κs = search needs
+colours-of-requires c κs = is-read (c .before .before .before .before .before .before) .answer
 
 settled-requires : tie.Need-settled-requires
 settled-requires c κs =
-    let start = c .before .before .before .before .before .before .before in
+    let start = c .before .before .before .before .before .before .before .before .before in
     let a = start .args in
     let is = is-read start in
-    let inside = within (now (a .file)) (a .reading) is (c .before .before .before .table-of .result) (c .before .before .colours-of .result) (c .before .before .before .table-of .ensures .0) (c .before .before .colours-of .ensures .0) in (
+    let table = c .before .before .before .fill in
+    let colours = c .before .before .colours-of in
+    let inside = within (now (a .file)) (a .reading) is (table .last .0) (colours .result) (table .ensures .0) (colours .ensures .0) in (
       some-state (now (a .file)) (a .reading) is,
       few-states (now (a .file)) (a .reading) is,
       few-labels (now (a .file)) (a .reading) is,
-      c .before .before .colours-of .ensures .1,
+      colours .ensures .1,
       λ s y t e. inside s y t e .2,
     )
 
 merged-requires : tie.Need-merged-requires
 merged-requires c κs =
-    let start = c .before .before .before .before .before .before .before .before .before .before .before .before .before in
+    let start = c .before .before .before .before .before .before .before .before .before .before .before .before .before .before .before .before .before in
     let a = start .args in
-    let table = c .before .before .before .before .before .before .before .before .before .table-of in
-    let colours = c .before .before .before .before .before .before .before .before .colours-of in
-    let bytes : Bytes (now (a .file)) = λ i. omega (arith, c .before .before .before .before .before .before .before .before .before .before .before .before .shared-slice-known .given i) in
-    foldable (now (a .file)) (a .reading) (is-read start) (table .result) (colours .result) (table .ensures .0) (colours .ensures .0) _ (ended (c .before .before .before .before .before)) _ _ bytes (table .ensures .1) (colours .ensures .1) (c .before .before .before .before .before .settled .ensures .1 .0) (start .pre .1) (start .pre .2)
+    let table = c .before .before .before .before .before .before .before .before .before .before .before .fill in
+    let colours = c .before .before .before .before .before .before .before .before .before .before .colours-of in
+    let end = c .before .before .before .before .before .before .before in
+    let bytes : Bytes (now (a .file)) = λ i. omega (arith, c .before .before .before .before .before .before .before .before .before .before .before .before .before .before .before .before .shared-slice-known .given i) in
+    foldable (now (a .file)) (a .reading) (is-read start) (table .last .0) (colours .result) (table .ensures .0) (colours .ensures .0) _ (ended end) _ _ bytes (table .ensures .1)
+    (colours .ensures .1) (end .settled .ensures .1 .0) (start .pre .1) (start .pre .2)
 
 wide-requires : tie.Need-wide-requires
 wide-requires c κs = search needs
@@ -70,18 +80,20 @@ same-length-2 c = search needs
 
 returns : tie.Need-returns
 returns c =
-    let start = c .before .before .before .before .before .before .before .before .before .before .before .before .before .before .before .before .before .before .before in
+    let start = c .before .before .before .before .before .before .before .before .before .before .before .before .before .before .before .before .before .before .before .before .before .before .before in
     let a = start .args in
-    let table = c .before .before .before .before .before .before .before .before .before .before .before .before .before .before .before .table-of in
-    let colours = c .before .before .before .before .before .before .before .before .before .before .before .before .before .before .colours-of in
+    let table = c .before .before .before .before .before .before .before .before .before .before .before .before .before .before .before .before .before .fill in
+    let colours = c .before .before .before .before .before .before .before .before .before .before .before .before .before .before .before .before .colours-of in
     let made = c .before .before .before .before .before .merged .ensures in
-    let settled = c .before .before .before .before .before .before .before .before .before .before .before .settled .ensures in
+    let end = c .before .before .before .before .before .before .before .before .before .before .before .before .before in
+    let settled = end .settled .ensures in
     let is = is-read start in
     let s = now (a .file) in (
-      counts-are s (a .reading) is (table .result) (colours .result) (table .ensures .0) (colours .ensures .0) _ (ended (c .before .before .before .before .before .before .before .before .before .before .before)) _ _ _ _ (made .1 .1 .0) (settled .0) (c .wide .ensures ∙ settled .1 .1 .1) (made .1 .1 .1),
+      counts-are s (a .reading) is (table .last .0) (colours .result) (table .ensures .0) (colours .ensures .0) _ (ended end) _ _ _ _ (made .1 .1 .0) (settled .0)
+          (c .wide .ensures ∙ settled .1 .1 .1) (made .1 .1 .1),
       (
-        made .0 ∙ ap (λ (F : Filter). laid (written large F) (now (a .answer))) (filter-is s (a .reading) is (table .result) (colours .result) (table .ensures .0) (colours .ensures .0) _ (ended (c .before .before .before .before .before .before .before .before .before .before .before))),
-        made .1 .0 ∙ ap (λ (l : List ℕ). laid l (now (a .classes))) (list-is s (a .reading) is (table .result) (colours .result) (table .ensures .0) (colours .ensures .0) _ (ended (c .before .before .before .before .before .before .before .before .before .before .before))),
+        made .0 ∙ ap (λ (F : Filter). laid (written large F) (now (a .answer))) (filter-is s (a .reading) is (table .last .0) (colours .result) (table .ensures .0) (colours .ensures .0) _ (ended end)),
+        made .1 .0 ∙ ap (λ (l : List ℕ). laid l (now (a .classes))) (list-is s (a .reading) is (table .last .0) (colours .result) (table .ensures .0) (colours .ensures .0) _ (ended end)),
       ),
     )
 
@@ -89,7 +101,8 @@ pub fold-spec : {M : Type 1} → statement M
 fold-spec =
     tie.close
     (tie.spec
-    table-of-requires
+    empty-requires
+    fill-requires
     colours-of-requires
     settled-requires
     merged-requires

@@ -125,18 +125,21 @@ returns-4 c =
     (trace-label large (file k) (observations k) (room k) _ (is-read told .answer) (roomy (found .before)) (found .first-outside .result)
     (outside found ∙ rw (lt-ltb _ _ (c .before .if3 .taken))))
 
-table-of-requires : tie.Need-table-of-requires
-table-of-requires c κs = is-read (c .before .before .before .before) .answer
+empty-requires : tie.Need-empty-requires
+empty-requires c κs = search needs
+
+fill-requires : tie.Need-fill-requires
+fill-requires c κs = (is-read (c .before .before .before .before .before .before) .answer, c .before .empty .ensures .0)
 
 colours-of-requires : tie.Need-colours-of-requires
-colours-of-requires c κs = is-read (c .before .before .before .before .before) .answer
+colours-of-requires c κs = is-read (c .before .before .before .before .before .before .before) .answer
 
 slice-aggregate-ride-through : tie.Need-slice-aggregate-ride-through
 slice-aggregate-ride-through c = search needs
 
 ride-through-requires : tie.Need-ride-through-requires
 ride-through-requires c κs =
-    let e3 = c .before .before .before .before .before in
+    let e3 = c .before .before .before .before .before .before .before in
     let e2 = e3 .before .before in
     let told = e2 .before .before in
     let k = checked₁ told in
@@ -157,7 +160,7 @@ returns-5 c =
     let ride = c .before .before in
     let hues = ride .before .before .before .before in
     let table = hues .before in
-    let e3 = table .before in
+    let e3 = table .before .before .before in
     let e2 = e3 .before .before in
     let told = e2 .before .before in
     let k = checked₁ told in
@@ -165,7 +168,7 @@ returns-5 c =
     let F = filterIn large (file k) in
     let ys = observations k in
     let from-start : reading told .start ≡ F .start = start-of (file k) (reading told .start) (is .start-is) in
-    let by-table = table .table-of .ensures .0 in
+    let by-table = table .fill .ensures .0 in
     let by-hues = hues .colours-of .ensures .0 in
     trace-ridden large (file k) ys (room k) _ (is .answer) (roomy e2) (ride .ride-through .result) (ride .ride-through .last .1 .1 .1 .1 .0) (inside e3)
     (ride .ride-through .ensures .0 ∙ ap₂ (λ (next : ℕ → ℕ → Option ℕ) (s : ℕ). rideOutcome (halted next s ys)) by-table from-start)
@@ -190,7 +193,8 @@ trace-spec =
     first-outside-requires
     refused-requires-3
     returns-4
-    table-of-requires
+    empty-requires
+    fill-requires
     colours-of-requires
     slice-aggregate-ride-through
     ride-through-requires

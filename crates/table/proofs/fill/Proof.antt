@@ -1,4 +1,4 @@
--- `table::table_of` meets its contract: an accepted file's edges ascend. Assumes nothing.
+-- `table::fill` meets its contract: an accepted file's edges ascend. Assumes nothing.
 use mathlib.Core.Path.{_≡_, ap, ap₂, _∙_}
 use mathlib.Core.Option.{none}
 use Prim.Native.Nat.{_≤_}
@@ -14,11 +14,11 @@ use Rattle.file.specs.Contents.{statesIn, labelsIn, edgesFrom, edgesIn, filterI
 use Rattle.file.proofs.Bounds.{large-usable, states-high, count-high}
 use Rattle.file.proofs.Tests.{fault-free}
 use Rattle.file.proofs.Calls.{ReadIs, reading-is}
-use Rattle.table.proofs.table_of.Statement.{statement}
-use Rattle.table.proofs.table_of.Tie as tie
+use Rattle.table.proofs.fill.Statement.{statement}
+use Rattle.table.proofs.fill.Tie as tie
 
 is-read : (c : tie.Start) → ReadIs large (now (c .args .file)) (c .args .reading)
-is-read c = reading-is large (now (c .args .file)) (c .args .reading) (c .pre)
+is-read c = reading-is large (now (c .args .file)) (c .args .reading) (c .pre .0)
 
 states≤256 : (c : tie.Start) → c .args .reading .states ≤ 256
 states≤256 c = omega (arith, is-read c .states-are, states-high large large-usable (now (c .args .file)))
@@ -42,21 +42,24 @@ large-requires c κs = search needs
 edges-begin-requires : tie.Need-edges-begin-requires
 edges-begin-requires c κs = (rw (c .large .ensures) large-usable, states≤256 (c .before .before))
 
-filled-requires : tie.Need-filled-requires
-filled-requires c κs =
-    let start = c .before .before .before in
+fill-from-requires : tie.Need-fill-from-requires
+fill-from-requires c κs =
+    let begin = c .before in
+    let widths = begin .before .large in
+    let start = c .before .before .before .before in
     let s = now (start .args .file) in
     let is = is-read start in (
-      rw (c .before .large .ensures) large-usable,
-      rw (c .before .large .ensures) (lit≤ tt),
-      c .edges-begin .ensures .1,
+      rw (widths .ensures) large-usable,
+      rw (widths .ensures) (lit≤ tt),
+      begin .edges-begin .ensures .1,
       omega (arith, is .count-is, count-high large large-usable s),
-      ap ascending (edges-are c) ∙ fault-free (statesIn large s) (labelsIn large s) 0 none (edgesIn large s) (is .sound .clear) .ascend,
+      ap ascending (edges-are begin) ∙ fault-free (statesIn large s) (labelsIn large s) 0 none (edgesIn large s) (is .sound .clear) .ascend,
+      start .pre .1,
     )
 
 returns : tie.Need-returns
 unfolding edge filterIn
-returns c = (c .filled .ensures .0 ∙ ap target (edges-are (c .before)), c .filled .ensures .1)
+returns c = (c .fill-from .ensures .0 ∙ ap target (edges-are (c .before .before)), c .fill-from .ensures .1)
 
-pub table-of-spec : {M : Type 1} → statement M
-table-of-spec = tie.close (tie.spec large-requires edges-begin-requires filled-requires returns)
+pub fill-spec : {M : Type 1} → statement M
+fill-spec = tie.close (tie.spec large-requires edges-begin-requires fill-from-requires returns)

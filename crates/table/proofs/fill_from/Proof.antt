@@ -1,4 +1,4 @@
--- `table::filled` meets its contract. The invariant: the table looks up the edges read so far. Assumes nothing.
+-- `table::fill_from` meets its contract. The invariant: the table looks up the edges read so far. Assumes nothing.
 use mathlib.Core.Path.{_≡_, ap, sym, _∙_}
 use mathlib.Core.Bool.{true}
 use mathlib.Core.List.{[], _∷_, _++_}
@@ -8,7 +8,7 @@ use native.Mathlib.Numerals.{add-one}
 use native.Mathlib.Omega.{arith}
 use borrow.Author.Needs.{needs}
 use denote.Ref.{now}
-use lib.ListN.{length, length-set}
+use lib.ListN.{length, length-set, length-replicate}
 use lib.Pow.{pow-mono}
 use Rattle.bits.proofs.Reading.{field-lt}
 use Rattle.meaning.specs.Filter.{Edge, ascending}
@@ -20,25 +20,24 @@ use Rattle.file.proofs.Bounds.{edges-high}
 use Rattle.file.proofs.EdgeLists.{edges-more, edges-around}
 use Rattle.table.specs.Table.{look}
 use Rattle.table.proofs.Laws.{look-empty, look-more}
-use Rattle.table.proofs.filled.Statement.{statement}
-use Rattle.table.proofs.filled.Tie as tie
+use Rattle.table.proofs.fill_from.Statement.{statement}
+use Rattle.table.proofs.fill_from.Tie as tie
 
 abbrev Inv-loop : tie.InvT-loop
-Inv-loop p file at e width table₀ place₀ i₀ table place i =
+Inv-loop table₀ p file at e width place₀ i₀ table place i =
     (i ≤ e) × (place ≡ at + edgeBits p * i) × (length table ≡ 16384) × (look table ≡ target (edgesFrom p file at i))
 
 abbrev μ-loop : tie.MeasureT-loop
-μ-loop p file at e width table₀ place₀ i₀ table place i = e - i
+μ-loop table₀ p file at e width place₀ i₀ table place i = e - i
 
 edge-bits-requires : tie.Need-edge-bits-requires Inv-loop μ-loop
 edge-bits-requires c κs = search needs
 
-empty-requires : tie.Need-empty-requires Inv-loop μ-loop
-empty-requires c κs = search needs
-
 loop-holds : tie.Need-loop-holds Inv-loop μ-loop
 unfolding edgesFrom
-loop-holds c = (omega arith, omega arith, c .empty .ensures .1, ap look (c .empty .ensures .0) ∙ look-empty)
+loop-holds c =
+    let is = c .before .before .pre .5 in
+    (omega arith, omega arith, ap length is ∙ length-replicate {A = ℕ} 16384 65535, ap look is ∙ look-empty)
 
 read-requires : tie.Need-read-requires Inv-loop μ-loop
 read-requires c κs = search needs
@@ -59,20 +58,20 @@ mul-table-2 c = omega (arith, c .before .read .ensures .1 .0, c .before .read .e
 label<64 : (c : tie.After-read Inv-loop μ-loop) → c .read .result .label < 64
 unfolding edgeAt
 label<64 c =
-    let start = c .before .before .before .before .before .before in
+    let start = c .before .before .before .before .before in
     let p = start .args .p in
     let place = c .before .before .loop .place in
     rw (ap (λ (e : Edge). e .label) (c .read .ensures .0))
     (lt-of-lt-of-le (field-lt (now (start .args .file)) (place + p .states) (p .labels)) (pow-mono {j = 6} (start .pre .1)))
 
-array-write-table : tie.Need-array-write-table Inv-loop μ-loop
-array-write-table c = omega (arith, c .before .read .ensures .1 .0, label<64 (c .before))
+element-write-table : tie.Need-element-write-table Inv-loop μ-loop
+element-write-table c = omega (arith, c .before .read .ensures .1 .0, label<64 (c .before))
 
 add-place : tie.Need-add-place Inv-loop μ-loop
 add-place c =
     let loop = c .before .before .before .loop in
-    let start = c .before .before .before .before .before .before .before in
-    omega (arith, edges-high (start .args .p) (start .pre .0) (loop .i) (omega arith), c .before .before .before .before .before .edge-bits .ensures .1)
+    let start = c .before .before .before .before .before .before in
+    omega (arith, edges-high (start .args .p) (start .pre .0) (loop .i) (omega arith), c .before .before .before .before .edge-bits .ensures .1)
 
 add-i : tie.Need-add-i Inv-loop μ-loop
 add-i c = omega arith
@@ -84,8 +83,8 @@ loop-again : tie.Need-loop-again Inv-loop μ-loop
 loop-again c =
     let read = c .before .read in
     let loop = c .before .before .before .loop in
-    let bits = c .before .before .before .before .before .edge-bits .ensures .0 in
-    let start = c .before .before .before .before .before .before .before in
+    let bits = c .before .before .before .before .edge-bits .ensures .0 in
+    let start = c .before .before .before .before .before .before in
     let a = start .args in
     let s = now (a .file) in
     let i = loop .i in
@@ -106,25 +105,24 @@ loop-again c =
 returns : tie.Need-returns Inv-loop μ-loop
 returns c =
     let loop = c .before .loop in
-    let start = c .before .before .before .before .before in
+    let start = c .before .before .before .before in
     let all : loop .i ≡ start .args .e = le-antisymm (loop .inv .0) (c .loop-test .left) in
     (loop .inv .3 ∙ ap (λ (k : ℕ). target (edgesFrom (start .args .p) (now (start .args .file)) (start .args .at) k)) all, loop .inv .2)
 
-pub filled-spec : {M : Type 1} → statement M
-filled-spec =
+pub fill-from-spec : {M : Type 1} → statement M
+fill-from-spec =
     tie.close
     (tie.spec
     Inv-loop
     μ-loop
     edge-bits-requires
-    empty-requires
     loop-holds
     read-requires
     cast-to
     mul-table
     add-table
     mul-table-2
-    array-write-table
+    element-write-table
     add-place
     add-i
     loop-less
