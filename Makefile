@@ -1,7 +1,9 @@
 # `make run` builds the main job and runs it on a shipped example, or on FILE=your.filter; `make test` is the gate.
 FILE ?= examples/k.filter
+PREFIX ?= /usr/local
+SECONDS_OF_SOAK ?= 600
 
-.PHONY: run test
+.PHONY: run test lib programs install bench soak
 
 run:
 	@mkdir -p target
@@ -10,3 +12,22 @@ run:
 
 test:
 	@.ci/run
+
+# The archive for C, target/staticlib/libpierhollow.a; include/pierhollow.h goes with it.
+lib:
+	@rt staticlib pierhollow
+
+programs:
+	@rt check reduce shrink trace
+
+# Programs and archive are x86-64; PREFIX and DESTDIR say where they go.
+install: lib programs
+	install -d "$(DESTDIR)$(PREFIX)/bin" "$(DESTDIR)$(PREFIX)/lib" "$(DESTDIR)$(PREFIX)/include" "$(DESTDIR)$(PREFIX)/share/man/man1"
+	install -m 755 target/bin/reduce target/bin/shrink target/bin/trace "$(DESTDIR)$(PREFIX)/bin"
+	install -m 644 target/staticlib/libpierhollow.a "$(DESTDIR)$(PREFIX)/lib"
+	install -m 644 include/pierhollow.h "$(DESTDIR)$(PREFIX)/include"
+	install -m 644 man/reduce.1 man/shrink.1 man/trace.1 "$(DESTDIR)$(PREFIX)/share/man/man1"
+
+# The library against plain C: ratios, growth, stack and sizes.
+bench: lib
+	@bench/run

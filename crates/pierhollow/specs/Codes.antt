@@ -1,0 +1,27 @@
+-- What a C caller gets: one number for an answer, and the values in a lent array.
+-- Assumes nothing.
+use Prim.Native.Nat.{ℕ, suc, _+_, _*_}
+use mathlib.Core.Path.{_≡_}
+use mathlib.Core.List.{List, [], _∷_}
+use lib.ListN.{set}
+use Rattle.file.specs.Answers.{Outcome, accepted, refused}
+
+-- 0 for accepted, else place times 256 plus the paper's number.
+abbrev pub codeOf : Outcome → ℕ
+codeOf (accepted vs) = 0
+codeOf (refused number place) = place * 256 + number
+
+-- An array with values stored one after another from place i on.
+abbrev pub stored : ℕ → List ℕ → List ℕ → List ℕ
+stored i [] array = array
+stored i (v ∷ vs) array = stored (suc i) vs (set array i v)
+
+-- The values are written only where the call accepts.
+abbrev pub valuesAfter : Outcome → List ℕ → List ℕ
+valuesAfter (accepted vs) array = stored 0 vs array
+valuesAfter (refused number place) array = array
+
+-- The number returned and the array of values, by what the call answers.
+pub record Told (answer : Outcome) (values : List ℕ) (r : ℕ) (values′ : List ℕ) : Type 0 where
+  pub number : r ≡ codeOf answer
+  pub values-after : values′ ≡ valuesAfter answer values

@@ -1,0 +1,112 @@
+/*
+ * Pierhollow: combinatorial filters, read, written, traced and reduced.
+ *
+ * Every call returns 0 where it accepts. A refusal returns its place times 256 plus its number: use
+ * pierhollow_number() and pierhollow_place(). A refusal changes nothing that was lent to the call: no
+ * byte, no entry, no value. Where a call accepts, it writes to the front of its rooms and leaves the rest
+ * of them as found.
+ *
+ * A room is a pointer and the number of its elements. NULL with 0 elements is an empty room, and nothing
+ * else may be NULL. What is lent to be written must not overlap anything else that is lent to the same
+ * call. The calls keep no state, allocate nothing and may be made from several threads at once.
+ *
+ * Values come back in an array of fixed length; each call says which value stands at which index.
+ */
+#ifndef PIERHOLLOW_H
+#define PIERHOLLOW_H
+
+#include <stddef.h>
+#include <stdint.h>
+
+#ifdef __cplusplus
+extern "C" {
+#endif
+
+/* The numbers of refusal. */
+enum pierhollow_refusal {
+    PIERHOLLOW_ACCEPTED = 0,
+    PIERHOLLOW_TOO_SHORT = 1,    /* fewer than 5 bytes */
+    PIERHOLLOW_START = 2,        /* start is n or more */
+    PIERHOLLOW_EDGE_COUNT = 3,   /* e exceeds n times m */
+    PIERHOLLOW_MISSING = 4,      /* fewer bytes than the file's length */
+    PIERHOLLOW_EXCESS = 5,       /* more bytes than the file's length */
+    PIERHOLLOW_FILLING = 6,      /* a filling bit is not 0 */
+    PIERHOLLOW_OUTSIDE = 7,      /* an edge's source or target is n or more, or its label m or more; place: the edge's index */
+    PIERHOLLOW_ORDER = 8,        /* an edge comes before the edge before it; place: the edge's index */
+    PIERHOLLOW_REPEATED = 9,     /* an edge has source and label of the edge before it; place: the edge's index */
+    PIERHOLLOW_ANSWER_ROOM = 10, /* reduce: answer room shorter than the file; pack: shorter than what is written */
+    PIERHOLLOW_CLASS_ROOM = 11,  /* reduce: fewer class entries than n */
+    PIERHOLLOW_ROOM = 12,        /* unpack: a room is too short; trace: more than 65,535 observations or a short room */
+    PIERHOLLOW_OBSERVATION = 13, /* trace: an observation is m or more; place: the index of the first */
+    PIERHOLLOW_LISTS = 14        /* pack: lists or numbers that a file cannot hold */
+};
+
+/* The refusal's number in what a call returned; 0 for accepted. */
+static inline unsigned pierhollow_number(uint64_t returned)
+{
+    return (unsigned)(returned % 256);
+}
+
+/* The refusal's place in what a call returned. */
+static inline uint64_t pierhollow_place(uint64_t returned)
+{
+    return returned / 256;
+}
+
+/* The longest filter file, in bytes, and the most states and labels that a file has. */
+#define PIERHOLLOW_LONGEST_FILE 45253
+#define PIERHOLLOW_MOST_STATES 256
+#define PIERHOLLOW_MOST_LABELS 64
+
+/*
+ * Reads the numbers of a filter file.
+ * values: 0 states (n), 1 labels (m), 2 start, 3 edges (e).
+ */
+uint64_t pierhollow_check(const uint8_t *file, size_t file_length,
+                          uint64_t values[4]);
+
+/*
+ * The same, with the first n bytes of colours and the first 3e bytes of edges filled: a colour a state; source, label and
+ * target an edge.
+ * values: 0 states (n), 1 labels (m), 2 start, 3 edges (e).
+ */
+uint64_t pierhollow_unpack(const uint8_t *file, size_t file_length,
+                           uint8_t *colours, size_t colours_length,
+                           uint8_t *edges, size_t edges_length,
+                           uint64_t values[4]);
+
+/*
+ * Writes the file of a colour list, an edge list (three bytes an edge), m and a start.
+ * values: 0 the file's length in bytes.
+ */
+uint64_t pierhollow_pack(const uint8_t *colours, size_t colours_length,
+                         const uint8_t *edges, size_t edges_length,
+                         size_t m, size_t start,
+                         uint8_t *room, size_t room_length,
+                         uint64_t values[1]);
+
+/*
+ * Traces observations, a byte each, from the start, and writes the colours that are shown: the start's, and one after each
+ * observation up to the first without an edge. The room has observations + 1 bytes or more, wherever the ride stops.
+ * values: 0 where all is traced: 0, else 1; 1 the index of the observation that it stops at, else 0.
+ */
+uint64_t pierhollow_trace(const uint8_t *file, size_t file_length,
+                          const uint8_t *observations, size_t observations_length,
+                          uint8_t *colours, size_t colours_length,
+                          uint64_t values[2]);
+
+/*
+ * Reduces a filter file: writes the reduced file, which is never longer than the original, and the new number of each of
+ * the n states. The answer room has as many bytes as the file or more, the class list n entries or more.
+ * values: 0 reduced states, 1 distinct colours, 2 rounds, 3 the reduced file's length in bytes.
+ */
+uint64_t pierhollow_reduce(const uint8_t *file, size_t file_length,
+                           uint8_t *answer, size_t answer_length,
+                           uint16_t *classes, size_t classes_length,
+                           uint64_t values[4]);
+
+#ifdef __cplusplus
+}
+#endif
+
+#endif

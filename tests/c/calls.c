@@ -1,0 +1,136 @@
+/*
+ * Every call of the library from C: the values at their documented places, refusals with number and place, and rooms that a
+ * refusal leaves as found. The cases are document 01's rides K, Q and R.
+ */
+#include <stdio.h>
+#include <string.h>
+
+#include "pierhollow.h"
+
+static const uint8_t k_file[18] = {0x02, 0x04, 0x00, 0x00, 0x20, 0x00, 0x82, 0x00, 0x00,
+                                   0x08, 0x00, 0x20, 0x40, 0x20, 0x00, 0x01, 0x02, 0x00};
+static const uint8_t k_reduced[18] = {0x01, 0x04, 0x00, 0x00, 0x20, 0x00, 0x80, 0x00, 0x02,
+                                      0x00, 0x08, 0x08, 0x08, 0x00, 0x00, 0x20, 0x80, 0x00};
+static const uint8_t k_colours[3] = {0, 1, 1};
+static const uint8_t k_edges[12] = {0, 0, 1, 0, 1, 2, 1, 0, 0, 2, 1, 0};
+
+static int checks;
+static int failures;
+
+static void expect(int holds, const char *what)
+{
+    checks++;
+    if (!holds) {
+        failures++;
+        printf("FAILED: %s\n", what);
+    }
+}
+
+static void expect_refusal(uint64_t returned, unsigned number, uint64_t place, const char *what)
+{
+    expect(pierhollow_number(returned) == number && pierhollow_place(returned) == place, what);
+}
+
+static int all(const uint8_t *bytes, size_t length, uint8_t value)
+{
+    for (size_t i = 0; i < length; i++)
+        if (bytes[i] != value)
+            return 0;
+    return 1;
+}
+
+static int values_are(const uint64_t *values, size_t count, const uint64_t *wanted)
+{
+    return memcmp(values, wanted, count * sizeof *values) == 0;
+}
+
+static void check(void)
+{
+    uint64_t values[4] = {9, 9, 9, 9};
+    expect_refusal(pierhollow_check(NULL, 0, values), PIERHOLLOW_TOO_SHORT, 0, "check of no bytes");
+    expect(values_are(values, 4, (const uint64_t[4]){9, 9, 9, 9}), "check: a refusal leaves the values");
+    expect(pierhollow_check(k_file, 18, values) == 0, "check of K");
+    expect(values_are(values, 4, (const uint64_t[4]){3, 2, 0, 4}), "check: n, m, start, e");
+}
+
+static void unpack(void)
+{
+    uint64_t values[4] = {9, 9, 9, 9};
+    uint8_t colours[5];
+    uint8_t edges[14];
+    memset(colours, 0xAA, sizeof colours);
+    memset(edges, 0xAA, sizeof edges);
+    expect_refusal(pierhollow_unpack(k_file, 18, colours, 2, edges, 14, values), PIERHOLLOW_ROOM, 0, "unpack: two colours");
+    expect_refusal(pierhollow_unpack(k_file, 18, colours, 5, edges, 11, values), PIERHOLLOW_ROOM, 0, "unpack: 11 edge bytes");
+    expect(all(colours, 5, 0xAA) && all(edges, 14, 0xAA), "unpack: a refusal leaves the rooms");
+    expect(values_are(values, 4, (const uint64_t[4]){9, 9, 9, 9}), "unpack: a refusal leaves the values");
+    expect(pierhollow_unpack(k_file, 18, colours, 5, edges, 14, values) == 0, "unpack of K");
+    expect(values_are(values, 4, (const uint64_t[4]){3, 2, 0, 4}), "unpack: n, m, start, e");
+    expect(memcmp(colours, k_colours, 3) == 0 && all(colours + 3, 2, 0xAA), "unpack: colours, and the room behind them");
+    expect(memcmp(edges, k_edges, 12) == 0 && all(edges + 12, 2, 0xAA), "unpack: edges, and the room behind them");
+}
+
+static void pack(void)
+{
+    uint64_t values[1] = {9};
+    uint8_t room[20];
+    static const uint8_t outside[3] = {0, 2, 1};
+    static const uint8_t order[6] = {0, 1, 2, 0, 0, 1};
+    static const uint8_t repeated[6] = {0, 0, 1, 0, 0, 2};
+    memset(room, 0xAA, sizeof room);
+    expect_refusal(pierhollow_pack(k_colours, 3, outside, 3, 2, 0, room, 20, values), PIERHOLLOW_OUTSIDE, 0, "pack: 7 at 0");
+    expect_refusal(pierhollow_pack(k_colours, 3, order, 6, 2, 0, room, 20, values), PIERHOLLOW_ORDER, 1, "pack: 8 at 1");
+    expect_refusal(pierhollow_pack(k_colours, 3, repeated, 6, 2, 0, room, 20, values), PIERHOLLOW_REPEATED, 1, "pack: 9 at 1");
+    expect_refusal(pierhollow_pack(k_colours, 3, k_edges, 12, 2, 3, room, 20, values), PIERHOLLOW_START, 0, "pack: start 3");
+    expect_refusal(pierhollow_pack(NULL, 0, NULL, 0, 2, 0, room, 20, values), PIERHOLLOW_LISTS, 0, "pack: no colours");
+    expect_refusal(pierhollow_pack(k_colours, 3, k_edges, 12, 2, 0, room, 17, values), PIERHOLLOW_ANSWER_ROOM, 0, "pack: 17 bytes");
+    expect(all(room, 20, 0xAA) && values[0] == 9, "pack: a refusal leaves room and values");
+    expect(pierhollow_pack(k_colours, 3, k_edges, 12, 2, 0, room, 20, values) == 0, "pack of K");
+    expect(values[0] == 18, "pack: the length");
+    expect(memcmp(room, k_file, 18) == 0 && all(room + 18, 2, 0xAA), "pack: the file, and the room behind it");
+}
+
+static void trace(void)
+{
+    uint64_t values[2] = {9, 9};
+    uint8_t colours[4];
+    static const uint8_t rides[2] = {0, 1};
+    static const uint8_t outside[2] = {0, 2};
+    memset(colours, 0xAA, sizeof colours);
+    expect_refusal(pierhollow_trace(k_file, 18, outside, 2, colours, 2, values), PIERHOLLOW_ROOM, 0, "trace: room for two");
+    expect_refusal(pierhollow_trace(k_file, 18, outside, 2, colours, 3, values), PIERHOLLOW_OBSERVATION, 1, "trace: 13 at 1");
+    expect(all(colours, 4, 0xAA) && values[0] == 9 && values[1] == 9, "trace: a refusal leaves room and values");
+    expect(pierhollow_trace(k_file, 18, rides, 2, colours, 4, values) == 0, "trace of K");
+    expect(values[0] == 1 && values[1] == 1, "trace: K stops at 1");
+    expect(colours[0] == 0 && colours[1] == 1 && all(colours + 2, 2, 0xAA), "trace: two colours, and the room behind them");
+    expect(pierhollow_trace(k_reduced, 18, rides, 2, colours, 4, values) == 0, "trace of K reduced");
+    expect(values[0] == 0 && values[1] == 0, "trace: K reduced traces both");
+    expect(colours[0] == 0 && colours[1] == 1 && colours[2] == 0 && colours[3] == 0xAA, "trace: colours 0 1 0");
+    expect(pierhollow_trace(k_file, 18, NULL, 0, colours, 1, values) == 0 && values[0] == 0, "trace of no observations");
+}
+
+static void reduce(void)
+{
+    uint64_t values[4] = {9, 9, 9, 9};
+    uint8_t answer[20];
+    uint16_t classes[4] = {7, 7, 7, 7};
+    memset(answer, 0xAA, sizeof answer);
+    expect_refusal(pierhollow_reduce(k_file, 18, answer, 17, classes, 2, values), PIERHOLLOW_ANSWER_ROOM, 0, "reduce: 17 bytes");
+    expect_refusal(pierhollow_reduce(k_file, 18, answer, 18, classes, 2, values), PIERHOLLOW_CLASS_ROOM, 0, "reduce: two entries");
+    expect(all(answer, 20, 0xAA) && classes[0] == 7 && classes[1] == 7 && values[0] == 9, "reduce: a refusal leaves the rooms");
+    expect(pierhollow_reduce(k_file, 18, answer, 20, classes, 4, values) == 0, "reduce of K");
+    expect(values_are(values, 4, (const uint64_t[4]){2, 2, 0, 18}), "reduce: states, colours, rounds, length");
+    expect(memcmp(answer, k_reduced, 18) == 0 && all(answer + 18, 2, 0xAA), "reduce: the file, and the room behind it");
+    expect(classes[0] == 0 && classes[1] == 1 && classes[2] == 1 && classes[3] == 7, "reduce: the class list");
+}
+
+int main(void)
+{
+    check();
+    unpack();
+    pack();
+    trace();
+    reduce();
+    printf("%d checks, %d failed\n", checks, failures);
+    return failures != 0;
+}
