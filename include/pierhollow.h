@@ -8,7 +8,8 @@
  *
  * A room is a pointer and the number of its elements. NULL with 0 elements is an empty room, and nothing
  * else may be NULL. What is lent to be written must not overlap anything else that is lent to the same
- * call. The calls keep no state, allocate nothing and may be made from several threads at once.
+ * call. The calls keep no state, allocate nothing and may be made from several threads at once. The archive
+ * needs memcpy and memset of the C library and nothing else.
  *
  * Values come back in an array of fixed length; each call says which value stands at which index.
  */
@@ -38,7 +39,7 @@ enum pierhollow_refusal {
     PIERHOLLOW_CLASS_ROOM = 11,  /* reduce: fewer class entries than n */
     PIERHOLLOW_ROOM = 12,        /* unpack: a room is too short; trace: more than 65,535 observations or a short room */
     PIERHOLLOW_OBSERVATION = 13, /* trace: an observation is m or more; place: the index of the first */
-    PIERHOLLOW_LISTS = 14        /* pack: lists or numbers that a file cannot hold */
+    PIERHOLLOW_LISTS = 14        /* pack: not 1 to 256 colours, m not 1 to 64, a colour above 63, or edge bytes no multiple of 3 */
 };
 
 /* The refusal's number in what a call returned; 0 for accepted. */
@@ -88,7 +89,7 @@ uint64_t pierhollow_pack(const uint8_t *colours, size_t colours_length,
 /*
  * Traces observations, a byte each, from the start, and writes the colours that are shown: the start's, and one after each
  * observation up to the first without an edge. The room has observations + 1 bytes or more, wherever the ride stops.
- * values: 0 where all is traced: 0, else 1; 1 the index of the observation that it stops at, else 0.
+ * values: 0 is 0 where all is traced and 1 where the ride stops; 1 the index of the observation that it stops at, else 0.
  */
 uint64_t pierhollow_trace(const uint8_t *file, size_t file_length,
                           const uint8_t *observations, size_t observations_length,

@@ -5,14 +5,14 @@
 use Prim.Native.Nat.{ℕ, _+_, _-_, _≤_, _<_}
 use mathlib.Core.Path.{_≡_, refl, sym, ap, ap₂, _∙_, subst}
 use mathlib.Core.Bool.{Bool, true, false, _||_}
-use mathlib.Core.List.{List, [], _∷_, _++_}
+use mathlib.Core.List.{List, [], _∷_}
 use mathlib.Core.Option.{Option, none, some}
 use native.Mathlib.Nat.{le-trans}
 use native.Mathlib.Omega.{arith}
 use lib.Dec.{ltb}
 use lib.ListN.{length, take, drop}
 use lib.Seq.{take-at}
-use borrow.Author.Tests.{le-ltb, ltb-false}
+use borrow.Author.Tests.{le-ltb}
 use Rattle.bits.specs.Bits.{Bytes}
 use Rattle.meaning.specs.Cases.{clash}
 use Rattle.meaning.specs.Filter.{Filter, states, inOrder}
@@ -22,20 +22,18 @@ use Rattle.meaning.specs.Demand.{reduced-bound, reduced-traces}
 use Rattle.file.specs.Layout.{large, lengthOf, written}
 use Rattle.file.specs.Contents.{labelsIn, filterIn}
 use Rattle.file.specs.Answers.{Outcome, accepted, refused}
-use Rattle.file.specs.Refusals.{Test, onward, firstOf, checkOf, numbersIn, laid, roomAfter}
+use Rattle.file.specs.Refusals.{onward, firstOf, checkOf, numbersIn, laid, roomAfter}
 use Rattle.file.proofs.Bounds.{large-usable, states-high}
 use Rattle.file.proofs.Tests.{first-accepted, Sound, check-sound, Writable, writable-in-order}
 use Rattle.file.proofs.Files.{Holds, length-written, written-holds, length-filter, read-writable}
 use Rattle.tracing.specs.declared.Traced.{Traced}
 use Rattle.tracing.specs.declared.Traced.the-variants as traced
-use Rattle.tracing.specs.Answers.{rideOutcome, tracedOutcome}
-use Rattle.tracing.specs.Tracing.{firstOutside, traceTests, labelsThen, traceOf}
+use Rattle.tracing.specs.Answers.{rideOutcome}
+use Rattle.tracing.specs.Tracing.{firstOutside, labelsThen, traceOf}
 use Rattle.tracing.specs.Promise.{TracePromise}
 use Rattle.tracing.proofs.Unique.{traced-one}
 use Rattle.reduction.specs.declared.Counts.{Counts}
-use Rattle.reduction.specs.declared.Reduced.{Reduced}
 use Rattle.reduction.specs.declared.Reduced.the-variants as answers
-use Rattle.reduction.specs.Answers.{reducedOutcome}
 use Rattle.reduction.specs.Reducing.{reduceTests, countsOf, reduceOf}
 use Rattle.reduction.specs.Promise.{ReducePromise}
 use Rattle.reduction.proofs.Accepted.{reduced-writable, file-accepted}

@@ -11,7 +11,7 @@ ghost use lib.Dec.{eqb};
 ghost use lib.ListN.{length, drop};
 ghost use Rattle.bits.specs.Bits.{putFields, Fit};
 ghost use Rattle.file.specs.Layout.{edgeWidths, flat};
-ghost use Rattle.file.specs.Contents.{edgeAt, edgesFrom};
+ghost use Rattle.file.specs.Contents.{edgesFrom};
 ghost use Rattle.file.specs.Refusals.{edgeFault, faultAt, firstFault, threes};
 ghost use Rattle.file.specs.Code.{edgeOf, edgeIn, edgeBefore, faultOf, Usable};
 

@@ -3,7 +3,7 @@ use crate::Profile;
 use crate::Reading;
 ghost use mathlib.Core.Path.{_≡_};
 ghost use mathlib.Core.List.{_∷_, []};
-ghost use Prim.Native.Nat.{_-_, _≤_, _<_, _^_};
+ghost use Prim.Native.Nat.{_-_, _≤_};
 ghost use Rattle.bits.specs.Bits.{putFields, Fit};
 ghost use Rattle.file.specs.Code.{Usable};
 ghost use Rattle.file.specs.Contents.{statesIn, labelsIn, startIn, countIn};

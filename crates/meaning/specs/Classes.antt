@@ -37,7 +37,7 @@ parted n clash P c = any (λ t. eqb (at P t) c && any (λ s. eqb (at P s) c && c
 unfoldable pub first : ℕ → (ℕ → ℕ → Bool) → List ℕ → ℕ
 first n clash P = least (parted n clash P) n
 
--- The smallest group number that no earlier conflicting member of k has; G holds the groups of the states before k. Each of them
+-- The smallest group number that no earlier member that conflicts with k has; G holds the groups of the states before k. Each of them
 -- is below k, so that k is free where no smaller number is.
 unfoldable pub free : (ℕ → Bool) → (ℕ → ℕ → Bool) → List ℕ → ℕ → ℕ
 free mem clash G k = least (λ g. not (any (λ t. mem t && (clash t k && eqb (at G t) g)) k)) k

@@ -159,7 +159,7 @@ module _ (T : Task) (fair : Fair T) where
 
   pub reduction-kept : Kept T (classes (T .size) (initial T)) (reduction T)
   unfolding reduction begin
-  reduction-kept = run-keeps (Kept T (classes n (initial T))) (cut-kept _) n _ (record { good = initial-good; bound = omega arith })
+  reduction-kept = run-keeps (Kept T (classes n (initial T))) (cut-kept _) _ _ (record { good = initial-good; bound = omega arith })
 
   -- no class has a conflicting pair at the end
   pub reduction-calm : T .size ≤ chosen T (reduction T .names)

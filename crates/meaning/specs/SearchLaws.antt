@@ -109,11 +109,6 @@ count-step p a (suc b) h e = test (eqb a b)
 
 -- ---- equal tests give equal answers
 
-pub bool-ext : (a b : Bool) → (a ≡ true → b ≡ true) → (b ≡ true → a ≡ true) → a ≡ b
-bool-ext true b f g = sym (f refl)
-bool-ext false true f g = g refl
-bool-ext false false f g = refl
-
 pub any-cong : (p q : ℕ → Bool) (n : ℕ) → ((i : ℕ) → i < n → p i ≡ q i) → any p n ≡ any q n
 unfolding any
 any-cong p q zero h = refl

@@ -49,7 +49,8 @@ filterOf hues m start next k = record { colours = tab k (at hues); labels = m; s
 abbrev pub mergedBy : List ℕ → List ℕ → List ℕ → Reading → Filter
 mergedBy table colours names r = mergedOver (look table) (at colours) (r .states) (r .labels) (r .start) (take (r .states) names)
 
--- Table, colours and names are those of a reading, and the rooms hold what is written.
+-- Table, colours and names fit a reading, and the rooms hold what is written. The edges are no list of bytes, so that pack's test of
+-- whole edges is passed.
 pub record Foldable (table colours names : List ℕ) (r : Reading) (answer list : ℕ) : Type 0 where
   pub few : r .states ≤ 256
   pub labels : r .labels ≤ 64

@@ -13,27 +13,27 @@ use Rattle.tracing.specs.Tracing.{traceOf}
 use Rattle.reduction.specs.Reducing.{reduceOf}
 use Rattle.pierhollow.specs.Codes.{Told}
 
--- n, m, start and e
+-- Values: n, m, start and e.
 abbrev pub CheckToC : List ℕ → List ℕ → ℕ → List ℕ → Type 0
 CheckToC file values r values′ = Told (checkOf large file) values r values′
 
--- n, m, start and e
+-- Values: n, m, start and e.
 pub record UnpackToC (file colours edges values : List ℕ) (r : ℕ) (colours′ edges′ values′ : List ℕ) : Type 0 where
   pub told : Told (unpackOf large file (length colours) (length edges)) values r values′
   pub colours-after : colours′ ≡ roomAfter (unpackOf large file (length colours) (length edges)) (coloursIn large file) colours
   pub edges-after : edges′ ≡ roomAfter (unpackOf large file (length colours) (length edges)) (flat (edgesIn large file)) edges
 
--- the length
+-- Value: the length.
 pub record PackToC (colours edges : List ℕ) (m start : ℕ) (room values : List ℕ) (r : ℕ) (room′ values′ : List ℕ) : Type 0 where
   pub told : Told (packOf large colours edges m start (length room)) values r values′
   pub room-after : room′ ≡ roomAfter (packOf large colours edges m start (length room)) (written large (listed colours edges m start)) room
 
--- 0 and 0 where all is traced, 1 and i where the ride stops at observation i
+-- Values: 0 and 0 where all is traced, 1 and i where the ride stops at observation i.
 pub record TraceToC (file observations colours values : List ℕ) (r : ℕ) (colours′ values′ : List ℕ) : Type 0 where
   pub told : Told (traceOf large file observations (length colours)) values r values′
   pub colours-after : colours′ ≡ roomAfter (traceOf large file observations (length colours)) (shown (filterIn large file) observations) colours
 
--- states, distinct colours, rounds and the length in bytes
+-- Values: states, distinct colours, rounds and the length in bytes.
 pub record ReduceToC (file answer classes values : List ℕ) (r : ℕ) (answer′ classes′ values′ : List ℕ) : Type 0 where
   pub told : Told (reduceOf large file (length answer) (length classes)) values r values′
   pub answer-after : answer′ ≡ roomAfter (reduceOf large file (length answer) (length classes)) (written large (reduced (filterIn large file))) answer

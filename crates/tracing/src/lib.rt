@@ -1,20 +1,17 @@
 // Tracing observations through a filter file.
 use file::Checked;
 use file::Kind;
-use file::Reading;
 use file::Refusal;
-use file::layout;
 ghost use mathlib.Core.Path.{_≡_};
 ghost use mathlib.Core.Option.{none, some};
 ghost use Prim.Native.Nat.{ℕ, _+_, _<_, _≤_};
 ghost use lib.Dec.{ltb};
-ghost use lib.ListN.{length, getD, replicate};
+ghost use lib.ListN.{length, getD};
 ghost use Rattle.meaning.specs.Pick.{pick};
-ghost use Rattle.meaning.specs.Trace.{colour, ridden, halted};
+ghost use Rattle.meaning.specs.Trace.{ridden, halted};
 ghost use Rattle.file.specs.Layout.{large};
-ghost use Rattle.file.specs.Contents.{filterIn};
-ghost use Rattle.file.specs.Answers.{readingOutcome, checkedOutcome};
-ghost use Rattle.file.specs.Refusals.{onward, checkOf, laid};
+ghost use Rattle.file.specs.Answers.{checkedOutcome};
+ghost use Rattle.file.specs.Refusals.{onward, laid};
 ghost use Rattle.table.specs.Table.{look};
 ghost use Rattle.tracing.specs.Answers.{rideOutcome, tracedOutcome, stepCourse, courseOf};
 ghost use Rattle.tracing.specs.Tracing.{firstOutside};
