@@ -1,7 +1,7 @@
 # `make run` builds the main job and runs it on a shipped example, or on FILE=your.filter; `make test` is the gate.
 FILE ?= examples/k.filter
 PREFIX ?= /usr/local
-SECONDS_OF_SOAK ?= 600
+TIME ?= 600
 
 .PHONY: run test lib programs install bench soak
 
@@ -31,3 +31,8 @@ install: lib programs
 # The library against plain C: ratios, growth, stack and sizes.
 bench: lib
 	@bench/run
+
+# Random cases through both programs for TIME seconds.
+soak:
+	@rt check answers >target/soak.log 2>&1 || { cat target/soak.log; exit 1; }
+	@cargo run --release --offline --quiet --manifest-path second/Cargo.toml --bin soak -- $(TIME)

@@ -6,29 +6,38 @@
 //! - [`bits`], [`file`]: the filter file, read and written;
 //! - [`trace`]: a ride through a filter;
 //! - [`reduce`], [`rounds`]: its reduction, and that round by round as text;
+//! - [`side_by_side`]: whether one filter does another's work, by a search over both;
 //! - [`call`]: the library's calls;
-//! - [`program`]: what the programs print;
+//! - [`program`], [`streams`]: what the programs print, and how they read and write;
 //! - [`case`], [`frame`]: one call with all that is lent to it, and how many of them travel as a batch of bytes;
 //! - [`kinds`]: the kinds of outcome that a run has to hit;
 //! - [`random`], [`make`]: the cases that are made afresh in each run, by families;
+//! - [`proved`], [`compare`]: a proved program run, and a batch compared;
 //! - [`rides`], [`stored`]: the document's rides, and the batch that is stored beside `answers`.
 //!
+//! `cargo build --release --offline` builds `reduce`, `shrink` and `trace` under target/release, twins of the proved
+//! programs in target/bin above: a station runs both and compares what they print.
+//!
 //! `cargo test --release --offline` compares them, once answers, trace, reduce and shrink are built in target/bin. The
-//! environment variable SEED makes a run again. For what a failing run has saved, `cases answer < BATCH` answers a
-//! batch, and `cases trace FILE < OBSERVATIONS`, `cases reduce < FILE` and `cases shrink < FILE` print what these
-//! programs should have printed.
+//! environment variable SEED makes a run again. `soak` compares for as long as one likes, and `soak again BATCH` compares
+//! what a failing run has saved. `cases answer < BATCH` prints the second program's outcomes of a batch, and `cases rounds
+//! < FILE` the rounds of a reduction.
 
 pub mod bits;
 pub mod call;
 pub mod case;
+pub mod compare;
 pub mod file;
 pub mod frame;
 pub mod kinds;
 pub mod make;
 pub mod program;
+pub mod proved;
 pub mod random;
 pub mod reduce;
 pub mod rides;
 pub mod rounds;
+pub mod side_by_side;
 pub mod stored;
+pub mod streams;
 pub mod trace;

@@ -42,35 +42,23 @@ pub fn reduce(filter: &Filter) -> Reduced {
 
 /// The beginning, then what each round comes to.
 pub fn stages(filter: &Filter) -> Vec<Stage> {
-    let targets = targets(filter);
     let mut classes = one_class_a_colour(filter);
     let mut stages = vec![Stage {
         taken: None,
         classes: classes.clone(),
     }];
     loop {
-        let numbers = numbers(filter, &classes);
-        let Some(class) = first_in_conflict(&targets, &numbers, &classes) else {
+        let leads = leads(filter, &classes);
+        let Some(class) = first_in_conflict(&leads, &classes) else {
             return stages;
         };
         classes.remove(&class);
-        classes.extend(groups(&targets, &numbers, &class));
+        classes.extend(groups(&leads, &class));
         stages.push(Stage {
             taken: Some(name(&class)),
             classes: classes.clone(),
         });
     }
-}
-
-/// For each state and label the target, where there is an edge. A map would do, but a long chain takes millions of looks.
-type Targets = Vec<Vec<Option<u64>>>;
-
-fn targets(filter: &Filter) -> Targets {
-    let mut targets = vec![vec![None; filter.m as usize]; filter.colours.len()];
-    for edge in &filter.edges {
-        targets[edge.source as usize][edge.label as usize] = Some(edge.target);
-    }
-    targets
 }
 
 fn one_class_a_colour(filter: &Filter) -> BTreeSet<Class> {
@@ -92,39 +80,45 @@ fn numbers(filter: &Filter, classes: &BTreeSet<Class>) -> Vec<u64> {
     numbers
 }
 
+/// For each state and label the number of the class that the edge leads to, where there is an edge. A map of wider numbers
+/// would do, but a long chain takes millions of looks.
+type Leads = Vec<Vec<Option<u8>>>;
+
+fn leads(filter: &Filter, classes: &BTreeSet<Class>) -> Leads {
+    let numbers = numbers(filter, classes);
+    let mut leads = vec![vec![None; filter.m as usize]; filter.colours.len()];
+    for edge in &filter.edges {
+        let number = u8::try_from(numbers[edge.target as usize]).expect("at most 256 classes");
+        leads[edge.source as usize][edge.label as usize] = Some(number);
+    }
+    leads
+}
+
 /// Both states have an edge at some label, and the two targets are in different classes.
-fn conflict(targets: &Targets, numbers: &[u64], one: u64, other: u64) -> bool {
-    let mut labels = targets[one as usize].iter().zip(&targets[other as usize]);
+fn conflict(leads: &Leads, one: u64, other: u64) -> bool {
+    let mut labels = leads[one as usize].iter().zip(&leads[other as usize]);
     labels.any(|at| match at {
-        (&Some(left), &Some(right)) => numbers[left as usize] != numbers[right as usize],
+        (Some(left), Some(right)) => left != right,
         _ => false,
     })
 }
 
-fn first_in_conflict(
-    targets: &Targets,
-    numbers: &[u64],
-    classes: &BTreeSet<Class>,
-) -> Option<Class> {
+fn first_in_conflict(leads: &Leads, classes: &BTreeSet<Class>) -> Option<Class> {
     let torn = |class: &&Class| {
         class.iter().any(|&one| {
             class
                 .range(one + 1..)
-                .any(|&other| conflict(targets, numbers, one, other))
+                .any(|&other| conflict(leads, one, other))
         })
     };
     classes.iter().find(torn).cloned()
 }
 
 /// Members in ascending order, each put into the first group that holds no member it conflicts with.
-fn groups(targets: &Targets, numbers: &[u64], class: &Class) -> Vec<Class> {
+fn groups(leads: &Leads, class: &Class) -> Vec<Class> {
     let mut groups: Vec<Class> = Vec::new();
     for &state in class {
-        let fits = |group: &&mut Class| {
-            !group
-                .iter()
-                .any(|&member| conflict(targets, numbers, member, state))
-        };
+        let fits = |group: &&mut Class| !group.iter().any(|&member| conflict(leads, member, state));
         match groups.iter_mut().find(fits) {
             Some(group) => {
                 group.insert(state);

@@ -1,4 +1,5 @@
-//! Document 01's rides: the files and lists byte for byte, and the filters of which it gives no bytes.
+//! Document 01's rides: the files and lists byte for byte, and the filters of which it gives no bytes. Then two filters for
+//! one of its errors that look right.
 
 use crate::file::{Edge, Filter};
 
@@ -81,4 +82,17 @@ pub fn ride_n() -> Filter {
 
 pub fn ride_p() -> Filter {
     filter_of(&[0, 0, 1], &[(0, 0, 0), (1, 0, 2)])
+}
+
+/// Judging by classes already split in the same round parts state 3 from 0 a round too early, since 1 has just left: one
+/// round instead of two. No smaller filter shows that error, for a class needs three members, so that one is judged after
+/// a split, and a conflict needs a second class.
+pub fn parted_in_the_next_round() -> Filter {
+    filter_of(&[0, 0, 1, 0], &[(0, 0, 1), (1, 0, 2), (3, 0, 3)])
+}
+
+/// The same error parts states 1 and 3, which lead to each other, for 1 has left and 3 has not: four states instead of
+/// three.
+pub fn never_parted() -> Filter {
+    filter_of(&[0, 0, 1, 0], &[(0, 0, 2), (1, 0, 3), (3, 0, 1)])
 }

@@ -1,17 +1,13 @@
 //! The proved program and the second one say the same to cases that no one has seen before.
 
-mod common;
-
-use common::{at_once, program, run, whole};
 use second::case::{Call, Case, Outcome};
+use second::compare::Batch;
 use second::file::Header;
-use second::frame::{read_outcomes, write_batch};
 use second::kinds::{self, Kind};
-use second::make::{self, Made};
+use second::make;
 use second::random::{seed, Random};
 use std::collections::BTreeSet;
-use std::env;
-use std::fmt::Write;
+use std::path::Path;
 
 const BATCHES: usize = 20;
 const LEAST_FILES: usize = 100_000;
@@ -64,8 +60,15 @@ fn answers_agree() {
     let mut random = Random::new(seed);
     let mut tally = Tally::default();
     for nth in 0..BATCHES {
-        let batch = make::batch(&mut random);
-        compare(seed, nth, batch, &mut tally);
+        let name = format!("second-{seed}-{nth}");
+        let batch = Batch::new(name, make::batch(&mut random));
+        let outcomes = batch.compare().unwrap_or_else(|difference| {
+            let saved = batch.save(&difference, Path::new(env!("CARGO_BIN_EXE_soak")));
+            panic!("SEED={seed}, batch {nth}: {}\n{saved}", difference.report)
+        });
+        for (case, outcome) in batch.cases().iter().zip(&outcomes) {
+            tally.add(case, outcome);
+        }
     }
     println!(
         "{} cases, {} files, {} rides, {} reduced, {} of them long",
@@ -85,98 +88,4 @@ fn answers_agree() {
         .filter(|kind| !tally.kinds.contains(kind))
         .collect();
     assert!(missing.is_empty(), "SEED={seed} never led to {missing:?}");
-}
-
-fn compare(seed: u64, nth: usize, batch: Vec<Made>, tally: &mut Tally) {
-    let (families, cases): (Vec<&str>, Vec<Case>) = batch
-        .into_iter()
-        .map(|made| (made.family, made.case))
-        .unzip();
-    let ran = run(program("answers"), whole(write_batch(&cases)), at_once);
-    let (outcomes, left) = read_outcomes(&ran.stdout, &cases);
-    for (i, case) in cases.iter().enumerate() {
-        let own = case.outcome();
-        let other = outcomes.get(i);
-        if other != Some(&own) {
-            let saved = save(&format!("{seed}-{nth}-{i}"), std::slice::from_ref(case));
-            let theirs = match other {
-                Some(other) => told(other) + &difference(&own, other),
-                // It may have stumbled over a later case, before it wrote what it had.
-                None => format!(
-                    "nothing more, and its end was: {}\nthe whole batch: {}\n",
-                    ran.end(),
-                    save(&format!("{seed}-{nth}"), &cases)
-                ),
-            };
-            panic!(
-                "answers differs. SEED={seed}, batch {nth}, case {i}, family: {}\n\
-                 {}this case alone: {saved}\nsecond: {}answers: {theirs}",
-                families[i],
-                describe(case),
-                told(&own),
-            );
-        }
-        tally.add(case, &own);
-    }
-    assert!(
-        left.is_empty(),
-        "SEED={seed}: answers wrote more than asked"
-    );
-    assert!(ran.went_well(), "SEED={seed}: answers: {}", ran.end());
-}
-
-/// Saves a batch, for either program's standard input, and says where.
-fn save(name: &str, cases: &[Case]) -> String {
-    let path = env::temp_dir().join(format!("second-{name}.batch"));
-    match std::fs::write(&path, write_batch(cases)) {
-        Ok(()) => format!("saved as {}", path.display()),
-        Err(error) => format!("not saved ({error})"),
-    }
-}
-
-fn describe(case: &Case) -> String {
-    let mut text = format!("{:?}, {}, {}\n", case.call, case.first, case.second);
-    for (name, string) in [("A", &case.a), ("B", &case.b), ("C", &case.c)] {
-        let _ = writeln!(text, "{name} ({} bytes): {}", string.len(), hex(string));
-    }
-    text
-}
-
-fn told(outcome: &Outcome) -> String {
-    let answer = outcome.answer;
-    format!(
-        "number {}, place {}, counts {:?}\n  B: {}\n  C: {}\n",
-        answer.number,
-        answer.place,
-        answer.counts,
-        hex(&outcome.b),
-        hex(&outcome.c)
-    )
-}
-
-/// Where the rooms first part, which may be far behind what is shown of them.
-fn difference(own: &Outcome, other: &Outcome) -> String {
-    let mut text = String::new();
-    for (name, own, other) in [("B", &own.b, &other.b), ("C", &own.c, &other.c)] {
-        if let Some(i) = (0..own.len()).find(|&i| own[i] != other[i]) {
-            let _ = writeln!(
-                text,
-                "{name} differs first at byte {i}: {:02x} of second, {:02x} of answers",
-                own[i], other[i]
-            );
-        }
-    }
-    text
-}
-
-fn hex(bytes: &[u8]) -> String {
-    const SHOWN: usize = 200;
-    let mut text = String::new();
-    for byte in bytes.iter().take(SHOWN) {
-        let _ = write!(text, "{byte:02x} ");
-    }
-    if bytes.len() > SHOWN {
-        text.push_str("...");
-    }
-    text
 }

@@ -1,4 +1,4 @@
-//! The proved programs `reduce` and `shrink`, run as processes, print what the second one says.
+//! The proved programs `reduce` and `shrink` and their twins, run as processes, print what the second program says.
 
 mod common;
 #[path = "common/outputs.rs"]
@@ -16,6 +16,7 @@ use second::program::{reduce, shrink, MOST_OF_A_FILE};
 use second::random::{seed, Random};
 use second::rides::*;
 use std::collections::BTreeSet;
+use std::process::Command;
 use std::time::Duration;
 
 const LEAST_FILES: usize = 500;
@@ -23,17 +24,32 @@ const LEAST_FILES: usize = 500;
 /// A program that reads a file from standard input, and what it should write for it.
 struct Program {
     name: &'static str,
+    command: fn() -> Command,
     own: fn(&[u8]) -> Vec<u8>,
 }
 
-const PROGRAMS: [Program; 2] = [
+const REDUCE: Program = Program {
+    name: "reduce",
+    command: || program("reduce"),
+    own: |file| reduce(file).into_bytes(),
+};
+const SHRINK: Program = Program {
+    name: "shrink",
+    command: || program("shrink"),
+    own: shrink,
+};
+const PROGRAMS: [Program; 4] = [
+    REDUCE,
+    SHRINK,
     Program {
-        name: "reduce",
-        own: |file| reduce(file).into_bytes(),
+        name: "the twin of reduce",
+        command: || Command::new(env!("CARGO_BIN_EXE_reduce")),
+        ..REDUCE
     },
     Program {
-        name: "shrink",
-        own: shrink,
+        name: "the twin of shrink",
+        command: || Command::new(env!("CARGO_BIN_EXE_shrink")),
+        ..SHRINK
     },
 ];
 
@@ -42,18 +58,22 @@ impl Program {
         wrote(ran, self.name, what, &(self.own)(file), &[("filter", file)]);
     }
 
-    /// Runs it on a file that is there at once, and gives back what it wrote.
-    fn agrees_on(&self, what: &str, file: &[u8]) -> Vec<u8> {
-        let ran = run(program(self.name), whole(file.to_vec()), at_once);
-        self.agrees(&ran, what, file);
-        ran.stdout
+    /// Runs it on a file that is there at once.
+    fn run(&self, file: &[u8]) -> common::Ran {
+        run((self.command)(), whole(file.to_vec()), at_once)
+    }
+}
+
+/// Fails unless each `reduce` writes the text and each `shrink` the bytes.
+fn all_write(what: &str, file: &[u8], text: &[u8], bytes: &[u8]) {
+    for (program, expected) in PROGRAMS.iter().zip([text, bytes].repeat(2)) {
+        let ran = program.run(file);
+        wrote(&ran, program.name, what, expected, &[("filter", file)]);
     }
 }
 
 fn agree_on(what: &str, file: &[u8]) {
-    for program in PROGRAMS {
-        program.agrees_on(what, file);
-    }
+    all_write(what, file, &(REDUCE.own)(file), &(SHRINK.own)(file));
 }
 
 /// What document 01 prints, or says of its rides.
@@ -77,10 +97,7 @@ fn the_document_s_files() {
         (G, "refused 4 0\n", &[]),
         (H, "refused 6 0\n", &[]),
     ] {
-        for (name, expected) in [("reduce", text.as_bytes()), ("shrink", bytes)] {
-            let ran = run(program(name), whole(file.to_vec()), at_once);
-            wrote(&ran, name, "a ride", expected, &[("filter", file)]);
-        }
+        all_write("a ride", file, text.as_bytes(), bytes);
     }
 }
 
@@ -139,25 +156,31 @@ fn kinds_of(mut file: Vec<u8>) -> Vec<Kind> {
     kinds::of(&case, &case.outcome())
 }
 
+/// What the proved `shrink` writes, once it has been found right.
+fn shrunk(what: &str, file: &[u8]) -> Vec<u8> {
+    let ran = SHRINK.run(file);
+    SHRINK.agrees(&ran, what, file);
+    ran.stdout
+}
+
 /// What `shrink` wrote is a file that it takes and leaves as it is.
 #[test]
 fn shrunk_again() {
     let seed = seed();
     println!("SEED={seed}");
     let mut random = Random::new(seed);
-    let [_, shrinks] = PROGRAMS;
-    let mut shrunk = 0;
+    let mut changed = 0;
     for (family, file) in files_of_all_families(&mut random, 4, 4) {
         let what = format!("SEED={seed}, family: {family}");
-        let once = shrinks.agrees_on(&what, &file);
+        let once = shrunk(&what, &file);
         if once.is_empty() {
             continue;
         }
-        let twice = shrinks.agrees_on(&format!("{what}, shrunk again"), &once);
+        let twice = shrunk(&format!("{what}, shrunk again"), &once);
         assert!(twice == once, "{what}: not the same when shrunk again");
-        shrunk += u32::from(once != file);
+        changed += u32::from(once != file);
     }
-    assert!(shrunk > 0, "SEED={seed}: no file was changed");
+    assert!(changed > 0, "SEED={seed}: no file was changed");
 }
 
 #[test]
@@ -190,7 +213,7 @@ fn standard_input_is_left_where_the_file_ends() {
         file.resize(length, 0);
         let input = folder.file("input.filter", &file);
         for tried in PROGRAMS {
-            let (ran, taken) = run_on(program(tried.name), &input);
+            let (ran, taken) = run_on((tried.command)(), &input);
             tried.agrees(&ran, &format!("{length} bytes"), &file);
             assert_eq!(taken, length.min(MOST_OF_A_FILE) as u64, "{}", tried.name);
         }
@@ -215,7 +238,7 @@ fn standard_input_in_small_pieces() {
     ] {
         for tried in PROGRAMS {
             let feed = in_pieces(file.to_vec(), size, Duration::from_millis(2));
-            let ran = run(program(tried.name), feed, at_once);
+            let ran = run((tried.command)(), feed, at_once);
             tried.agrees(&ran, &format!("pieces of {size}"), file);
         }
     }

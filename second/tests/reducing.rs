@@ -1,8 +1,9 @@
 //! The second program's reducer against what document 01 says in numbers, and against what must hold of any reduction.
 
-use second::file::{length, read, write, Edge, Filter};
+use second::file::{length, read, write, Filter};
 use second::make::chains::plain;
 use second::make::reduces;
+use second::make::traces::walk;
 use second::random::{seed, Random};
 use second::reduce::{reduce, Reduced};
 use second::rides::*;
@@ -55,6 +56,31 @@ fn ride_p_takes_one_round() {
     assert_eq!(reduce(&ride_p()), kept(ride_p(), 2, 1));
 }
 
+/// The class of 0, 1 and 3 is split by where the edges lead: 1 to the class of 2, 0 and 3 to their own. So 1 is alone, and
+/// then 0 leads to 1 and 3 to itself.
+#[test]
+fn classes_are_judged_as_the_round_began_and_part_later() {
+    let original = parted_in_the_next_round();
+    assert_eq!(
+        rounds(&write(&original)),
+        "0: 0 0 2 0\n\
+         1 0: 0 1 2 0\n\
+         2 0: 0 1 2 3\n"
+    );
+    assert_eq!(reduce(&original), kept(original, 2, 2));
+}
+
+/// The class of 0, 1 and 3 is split into 0, which leads to the class of 2, and 1 with 3, which led to their own class and
+/// lead to each other.
+#[test]
+fn classes_are_judged_as_the_round_began_and_stay() {
+    let reduced = reduce(&never_parted());
+    let merged = filter_of(&[0, 0, 1], &[(0, 0, 2), (1, 0, 1)]);
+    assert_eq!(reduced.filter, merged);
+    assert_eq!(reduced.numbers, [0, 1, 2, 1]);
+    assert_eq!((reduced.distinct_colours, reduced.rounds), (2, 1));
+}
+
 #[test]
 fn the_longest_chain_takes_254_rounds() {
     assert_eq!(reduce(&plain(256)), kept(plain(256), 2, 254));
@@ -73,22 +99,6 @@ fn the_rounds_as_text() {
     assert_eq!(rounds(&write(&ride_m())), "0: 0 1 1 1\n1 1: 0 1 2 3\n");
     assert_eq!(rounds(K), "0: 0 1 1\n");
     assert_eq!(rounds(D), "refused 5 0\n");
-}
-
-/// Observations that the filter traces from its start, as far as edges go.
-fn traced(filter: &Filter, random: &mut Random) -> Vec<u8> {
-    let mut state = filter.start;
-    let mut observations = Vec::new();
-    for _ in 0..40 {
-        let out: Vec<&Edge> = filter.edges.iter().filter(|e| e.source == state).collect();
-        if out.is_empty() {
-            break;
-        }
-        let edge = out[random.between(0, out.len() as u64 - 1) as usize];
-        observations.push(edge.label as u8);
-        state = edge.target;
-    }
-    observations
 }
 
 #[test]
@@ -123,7 +133,7 @@ fn holds(original: &Filter, reduced: &Reduced, random: &mut Random, what: &str) 
         length(filter.n(), filter.e()) <= length(original.n(), original.e()),
         "{what}"
     );
-    let observations = traced(original, random);
+    let (observations, _) = walk(original, 40, random);
     assert_eq!(
         ride(filter, &observations),
         ride(original, &observations),

@@ -1,4 +1,4 @@
-//! The proved program `trace`, run as a process, prints what the second one says.
+//! The proved program `trace` and its twin, run as processes, print what the second program says.
 
 mod common;
 #[path = "common/outputs.rs"]
@@ -26,10 +26,13 @@ use std::time::Duration;
 
 const LEAST_PAIRS: usize = 500;
 
-fn trace_with<S: AsRef<OsStr>>(arguments: &[S]) -> Command {
-    let mut command = program("trace");
-    command.args(arguments);
-    command
+/// The proved program with these arguments, and its twin.
+fn both_with<S: AsRef<OsStr>>(arguments: &[S]) -> [Command; 2] {
+    let mut both = [program("trace"), Command::new(env!("CARGO_BIN_EXE_trace"))];
+    for command in &mut both {
+        command.args(arguments);
+    }
+    both
 }
 
 /// Fails unless the output is that of this file and these observations, to the last byte.
@@ -39,12 +42,18 @@ fn agrees(ran: &Ran, what: &str, file: &[u8], observations: &[u8]) {
     wrote(ran, "trace", what, own.as_bytes(), &given);
 }
 
-/// Runs `trace` on one pair, both there at once.
+/// Runs both with these arguments, which lead to that file, and observations that are there at once.
+fn both_agree<S: AsRef<OsStr>>(arguments: &[S], what: &str, file: &[u8], observations: &[u8]) {
+    for command in both_with(arguments) {
+        let ran = run(command, whole(observations.to_vec()), at_once);
+        agrees(&ran, what, file, observations);
+    }
+}
+
+/// Runs both on one pair.
 fn pair(folder: &Folder, what: &str, file: &[u8], observations: &[u8]) {
     let path = folder.file("pair.filter", file);
-    let command = trace_with(&[path]);
-    let ran = run(command, whole(observations.to_vec()), at_once);
-    agrees(&ran, what, file, observations);
+    both_agree(&[path], what, file, observations);
 }
 
 #[test]
@@ -66,9 +75,11 @@ fn the_document_s_pairs() {
         (H, &[], "refused 6 0\n"),
     ] {
         let path = folder.file("ride.filter", file);
-        let ran = run(trace_with(&[path]), whole(observations.to_vec()), at_once);
-        assert_eq!(String::from_utf8_lossy(&ran.stdout), text);
-        assert!(ran.went_well(), "{}", ran.end());
+        for command in both_with(&[path]) {
+            let ran = run(command, whole(observations.to_vec()), at_once);
+            assert_eq!(String::from_utf8_lossy(&ran.stdout), text);
+            assert!(ran.went_well(), "{}", ran.end());
+        }
     }
 }
 
@@ -121,8 +132,7 @@ fn kinds_of(mut file: Vec<u8>, mut observations: Vec<u8>) -> Vec<Kind> {
 fn no_argument() {
     for observations in [vec![], vec![0], vec![255], vec![0; 65_536]] {
         let none: [&OsStr; 0] = [];
-        let ran = run(trace_with(&none), whole(observations.clone()), at_once);
-        agrees(&ran, "no argument", &[], &observations);
+        both_agree(&none, "no argument", &[], &observations);
     }
 }
 
@@ -159,9 +169,7 @@ fn names_that_lead_to_no_file() {
         OsString::from("/dev/null"),
     ] {
         for observations in [&[][..], &[0, 1]] {
-            let command = trace_with(&[&name]);
-            let ran = run(command, whole(observations.to_vec()), at_once);
-            agrees(&ran, &format!("the name {name:?}"), &[], observations);
+            both_agree(&[&name], &format!("the name {name:?}"), &[], observations);
         }
     }
 }
@@ -189,16 +197,16 @@ fn names_that_lead_to_a_file() {
         let own = folder.path.file_name().expect("the folder's name");
         let roundabout = folder.path.join("./..").join(own).join(name);
         for argument in [name, roundabout.as_os_str(), link.as_os_str()] {
-            let mut command = trace_with(&[argument]);
-            command.current_dir(&folder.path);
-            let ran = run(command, whole(vec![0, 0, 1, 1, 1, 0]), at_once);
-            let what = format!("the name {argument:?}");
-            agrees(&ran, &what, K, &[0, 0, 1, 1, 1, 0]);
+            for mut command in both_with(&[argument]) {
+                command.current_dir(&folder.path);
+                let ran = run(command, whole(vec![0, 0, 1, 1, 1, 0]), at_once);
+                let what = format!("the name {argument:?}");
+                agrees(&ran, &what, K, &[0, 0, 1, 1, 1, 0]);
+            }
         }
     }
     let long = folder.file("a".repeat(255), K_REDUCED);
-    let ran = run(trace_with(&[long]), whole(vec![0, 1]), at_once);
-    agrees(&ran, "the longest name", K_REDUCED, &[0, 1]);
+    both_agree(&[long], "the longest name", K_REDUCED, &[0, 1]);
 }
 
 /// One that the own user may not read, which stops everyone but the superuser.
@@ -208,8 +216,7 @@ fn a_file_without_permission() {
     let path = folder.file("k.filter", K);
     fs::set_permissions(&path, fs::Permissions::from_mode(0o000)).expect("its mode can be set");
     let file = fs::read(&path).unwrap_or_default();
-    let ran = run(trace_with(&[path]), whole(vec![0, 1]), at_once);
-    agrees(&ran, "a file of mode 0", &file, &[0, 1]);
+    both_agree(&[path], "a file of mode 0", &file, &[0, 1]);
 }
 
 #[test]
@@ -232,8 +239,7 @@ fn further_arguments_are_ignored() {
         (vec![folder.path.clone().into_os_string(), k], A),
         (many, K),
     ] {
-        let ran = run(trace_with(&arguments), whole(vec![0, 1]), at_once);
-        agrees(&ran, &format!("{arguments:?}"), file, &[0, 1]);
+        both_agree(&arguments, &format!("{arguments:?}"), file, &[0, 1]);
     }
 }
 
@@ -292,9 +298,11 @@ fn standard_input_is_left_where_the_observations_end() {
     for length in [0, 100, 65_535, 65_536, 65_537, 70_000, 200_000] {
         let observations = vec![0; length];
         let input = folder.file("observations", &observations);
-        let (ran, taken) = run_on(trace_with(&[&path]), &input);
-        agrees(&ran, &format!("{length} bytes"), K, &observations);
-        assert_eq!(taken, length.min(MOST_OF_THE_OBSERVATIONS) as u64);
+        for command in both_with(&[&path]) {
+            let (ran, taken) = run_on(command, &input);
+            agrees(&ran, &format!("{length} bytes"), K, &observations);
+            assert_eq!(taken, length.min(MOST_OF_THE_OBSERVATIONS) as u64);
+        }
     }
 }
 
@@ -312,19 +320,23 @@ fn standard_input_in_small_pieces() {
             let path = folder.file("pieces.filter", &case.a);
             let mut observations = case.b.clone();
             observations.truncate(count);
-            let feed = in_pieces(observations.clone(), size, pause);
-            let ran = run(trace_with(&[path]), feed, at_once);
-            let what = format!("pieces of {size}");
-            agrees(&ran, &what, &case.a, &observations);
+            for command in both_with(&[path]) {
+                let feed = in_pieces(observations.clone(), size, pause);
+                let ran = run(command, feed, at_once);
+                let what = format!("pieces of {size}");
+                agrees(&ran, &what, &case.a, &observations);
+            }
         }
     }
     for (length, size) in [(65_535, 4_099), (65_536, 5_000), (70_000, 8_191)] {
         let path = folder.file("pieces.filter", K);
         let observations = vec![0; length];
-        let feed = in_pieces(observations.clone(), size, pause);
-        let ran = run(trace_with(&[path]), feed, at_once);
-        let what = format!("{length} observations in pieces of {size}");
-        agrees(&ran, &what, K, &observations);
+        for command in both_with(&[path]) {
+            let feed = in_pieces(observations.clone(), size, pause);
+            let ran = run(command, feed, at_once);
+            let what = format!("{length} observations in pieces of {size}");
+            agrees(&ran, &what, K, &observations);
+        }
     }
 }
 
@@ -354,8 +366,10 @@ fn a_slow_reader_of_a_long_ride() {
     let observations: Vec<u8> = (0..65_535).map(|_| random.between(0, 4) as u8).collect();
     for length in [65_535, 30_000] {
         let list = observations[..length].to_vec();
-        let ran = run(trace_with(&[&path]), whole(list.clone()), slowly);
-        agrees(&ran, "a slow reader", &file, &list);
+        for command in both_with(&[&path]) {
+            let ran = run(command, whole(list.clone()), slowly);
+            agrees(&ran, "a slow reader", &file, &list);
+        }
     }
 }
 

@@ -12,7 +12,8 @@ use borrow.Author.Tests.{le-ltb, lt-ltb}
 use Rattle.meaning.specs.Search.{least, tab, at}
 use Rattle.meaning.specs.SearchLaws.{least-cong, tab-cong, count-cong, at-take, any-cong}
 use Rattle.meaning.specs.Classes.{Task, Classes, initial, parted, first, free, groups, split, round, chosen, begin, cut, run, reduction, named, classes}
-use Rattle.meaning.specs.ClassesLaws.{groups-apart}
+use Rattle.meaning.specs.Cases.{test}
+use Rattle.meaning.specs.ClassesLaws.{Named, groups-apart, name-own}
 use Rattle.meaning.specs.Reduced.{apart, conflict}
 use Rattle.meaning.specs.Reduction.{Fair, Kept, initial-good, cut-kept, classes-some, classes-max}
 use Rattle.table.specs.Table.{look}
@@ -56,6 +57,12 @@ module _ (n : ℕ) (clashes : ℕ → ℕ → Bool) (P : List ℕ) where
   rounded-front : (c : ℕ) → rounded n clashes P c ≡ rounded n clashes front c
   unfolding rounded
   rounded-front c = ap (split n P c) (groups-front c n (omega arith)) ∙ split-front c _
+
+-- a state that is not its own name names no class, and so parts none
+pub parted-own : (n : ℕ) (clashes : ℕ → ℕ → Bool) (P : List ℕ) → Named n (take n P) → (c : ℕ) → c < n → (at P c ≡ c → ⊥) → parted n clashes P c ≡ false
+parted-own n clashes P nm c h e = test (parted n clashes P c)
+    (λ q. absurd (e (sym (at-take P n c h) ∙ name-own n clashes (take n P) nm c h (sym (parted-front n clashes P c) ∙ q))))
+    (λ q. q)
 
 pub classes-front : (n : ℕ) (P : List ℕ) → classes n P ≡ classes n (take n P)
 unfolding classes
@@ -124,6 +131,10 @@ module _ (table hues : List ℕ) (m n : ℕ) where
     -- few rounds are made
     pub running-low : (names : List ℕ) (rounds : ℕ) → Running names rounds → rounds < n
     running-low names rounds r = let b = r .kept .bound in omega (arith, classes-max T fair (take n names))
+
+    -- the names are right
+    pub running-named : (names : List ℕ) (rounds : ℕ) → Running names rounds → Named n (take n names)
+    running-named names rounds r = r .kept .good .right
 
     pub running-on : (names next : List ℕ) (rounds more c : ℕ) → Running names rounds → c ≡ first n (clash table m names) names → c < n
         → take n next ≡ rounded n (clash table m names) names c → more ≡ rounds + 1 → Running next more

@@ -6,6 +6,7 @@ ghost use lib.Dec.{eqb};
 ghost use lib.ListN.{length, take, replicate};
 ghost use Rattle.meaning.specs.Search.{least, bit, tab, at};
 ghost use Rattle.meaning.specs.Classes.{initial, first, groups, reduction, classes};
+ghost use Rattle.meaning.specs.ClassesLaws.{Named};
 ghost use Rattle.meaning.specs.Reduced.{apart};
 ghost use Rattle.table.specs.Table.{look};
 ghost use Rattle.reduction.specs.Rounds.{twin, clash, foundOf, taken, group, renamed, rounded, taskOf};
@@ -139,14 +140,18 @@ impl Partition {
 
     // The class with the smallest name that has a conflicting pair; n where there is none.
     fn first_parted(self, table: &[u16; 16384], m: usize, n: usize) -> usize
-        requires { ⌜ (m ≤ 64) × (n ≤ 256) ⌝ }
+        requires { ⌜ (m ≤ 64) × (n ≤ 256) × Named n (take n (self .names)) ⌝ }
         ensures { λ r. ⌜ r ≡ first n (clash (now (table .entry)) m (self .names)) (self .names) ⌝ }
     {
-        let mut c = 0;
+        let names = self.names;
+        let mut c: usize = 0;
         while c < n {
-            let found = self.pair_in(table, m, n, c as u16);
-            if let Found::Pair(_, _) = found {
-                return c;
+            // A class is named by one of its members, so what is not its own name has no members to look at.
+            if names[c] == c as u16 {
+                let found = self.pair_in(table, m, n, c as u16);
+                if let Found::Pair(_, _) = found {
+                    return c;
+                }
             }
             c += 1;
         }

@@ -10,13 +10,20 @@ use crate::make::rooms::{any, Room};
 use crate::make::Family;
 use crate::random::Random;
 use crate::reduce::reduce;
-use crate::rides::{ride_l, ride_m, ride_n, ride_p, C, K, K_REDUCED};
+use crate::rides::{
+    never_parted, parted_in_the_next_round, ride_l, ride_m, ride_n, ride_p, C, K, K_REDUCED,
+};
 
 pub const FAMILIES: &[Family<Case>] = &[
     Family {
         name: "the document's reductions",
         times: 1,
         make: of_the_document,
+    },
+    Family {
+        name: "classes judged in the midst of a round",
+        times: 1,
+        make: judged_in_the_midst,
     },
     Family {
         name: "small filters",
@@ -163,6 +170,10 @@ pub fn of_the_document(random: &mut Random) -> Vec<Case> {
         .iter()
         .flat_map(|file| with_each_room(file, random))
         .collect()
+}
+
+pub fn judged_in_the_midst(random: &mut Random) -> Vec<Case> {
+    with_enough_room(&[parted_in_the_next_round(), never_parted()], random)
 }
 
 /// Few enough states and labels that every way to merge and to part comes by.

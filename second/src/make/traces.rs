@@ -90,7 +90,7 @@ fn labels(m: u64, count: usize, random: &mut Random) -> Vec<u8> {
 
 /// Labels along edges from the start on, and the state where they lead: as many as asked for, or fewer where the way
 /// comes to a state without edges.
-fn walk(filter: &Filter, count: usize, random: &mut Random) -> (Vec<u8>, u64) {
+pub fn walk(filter: &Filter, count: usize, random: &mut Random) -> (Vec<u8>, u64) {
     let mut ways = vec![Vec::new(); filter.colours.len()];
     for edge in &filter.edges {
         ways[edge.source as usize].push(*edge);

@@ -66,7 +66,7 @@ pub fn wrote(ran: &Ran, program: &str, what: &str, own: &[u8], given: &[(&str, &
     );
 }
 
-/// Saves what a program was given, for `cases`, and says where.
+/// Saves what a program was given, for its twin, and says where.
 fn save(kind: &str, bytes: &[u8]) -> String {
     static SAVED: AtomicUsize = AtomicUsize::new(0);
     let nth = SAVED.fetch_add(1, Ordering::Relaxed);

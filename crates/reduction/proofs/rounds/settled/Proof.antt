@@ -3,10 +3,11 @@ use Prim.Native.Nat.{_-_}
 use native.Mathlib.Omega.{arith}
 use mathlib.Core.Path.{_≡_, sym, ap, _∙_}
 use borrow.Author.Needs.{needs}
+use denote.Ref.{now}
 use lib.ListN.{length}
 use Rattle.meaning.specs.Classes.{Classes, first}
 use Rattle.reduction.specs.Rounds.{clash}
-use Rattle.reduction.proofs.Run.{Running, running-begins, running-on, running-low, running-ends, classes-begin}
+use Rattle.reduction.proofs.Run.{Running, running-begins, running-on, running-low, running-named, running-ends, classes-begin}
 use Rattle.reduction.proofs.rounds.settled.Statement.{statement}
 use Rattle.reduction.proofs.rounds.settled.Tie as tie
 
@@ -20,7 +21,11 @@ initial-requires : tie.Need-initial-requires Inv-loop μ-loop
 initial-requires c κs = search needs
 
 first-parted-requires : tie.Need-first-parted-requires Inv-loop μ-loop
-first-parted-requires c κs = search needs
+first-parted-requires c κs =
+    let pre = c .before .pre in
+    let a = c .before .args in
+    let made = c .initial .ensures in
+    (omega (arith, pre .2), pre .1, running-named (now (a .table)) (now (a .colours)) (a .m) (a .n) (pre .0) (pre .1) (pre .4) _ _ (running-begins _ _ _ _ (pre .0) (pre .1) (pre .4) _ _ (made .0) (made .1)))
 
 loop-holds : tie.Need-loop-holds Inv-loop μ-loop
 loop-holds c =
@@ -38,7 +43,16 @@ split-requires c κs =
     (omega arith, omega arith, omega (arith, low, pre .1))
 
 first-parted-requires-2 : tie.Need-first-parted-requires-2 Inv-loop μ-loop
-first-parted-requires-2 c κs = search needs
+first-parted-requires-2 c κs =
+    let pre = c .before .before .before .before .before .pre in
+    let a = c .before .before .before .before .before .args in
+    let old = c .before .before .loop .inv in
+    let made = c .split .ensures in (
+      omega (arith, pre .2),
+      pre .1,
+      running-named (now (a .table)) (now (a .colours)) (a .m) (a .n) (pre .0) (pre .1) (pre .4) _ _
+          (running-on _ _ _ _ (pre .0) (pre .1) (pre .4) _ _ _ _ _ (old .0) (old .1) (omega arith) (made .0) (made .1)),
+    )
 
 loop-less : tie.Need-loop-less Inv-loop μ-loop
 loop-less c =

@@ -2,23 +2,35 @@
 use Prim.Native.Nat.{_≤_, _-_}
 use native.Mathlib.Omega.{arith}
 use mathlib.Core.Path.{sym, _∙_}
+use mathlib.Core.Logic.{⊎-elim}
 use borrow.Author.Needs.{needs}
+use denote.Ref.{now}
 use Rattle.meaning.specs.Search.{least}
 use Rattle.meaning.specs.SearchLaws.{least-next, least-here, least-gone}
 use Rattle.meaning.specs.Classes.{parted}
 use Rattle.reduction.specs.Rounds.{clash}
 use Rattle.reduction.proofs.Laws.{parted-none, parted-pair, first-least}
+use Rattle.reduction.proofs.Run.{parted-own}
 use Rattle.reduction.proofs.rounds.Partition.first_parted.Statement.{statement}
 use Rattle.reduction.proofs.rounds.Partition.first_parted.Tie as tie
 
 abbrev Inv-loop : tie.InvT-loop
-Inv-loop self table m n c₀ c = (c ≤ n) × (c ≤ least (parted n (clash table m (self .names)) (self .names)) n)
+Inv-loop self table m n names c₀ c = (c ≤ n) × (c ≤ least (parted n (clash table m (self .names)) (self .names)) n)
 
 abbrev μ-loop : tie.MeasureT-loop
-μ-loop self table m n c₀ c = n - c
+μ-loop self table m n names c₀ c = n - c
 
 loop-holds : tie.Need-loop-holds Inv-loop μ-loop
 loop-holds c = (omega arith, omega arith)
+
+mul-if1 : tie.Need-mul-if1 Inv-loop μ-loop
+mul-if1 c = omega arith
+
+array-read-if1 : tie.Need-array-read-if1 Inv-loop μ-loop
+array-read-if1 c = omega arith
+
+cast-if1 : tie.Need-cast-if1 Inv-loop μ-loop
+cast-if1 c = omega arith
 
 cast-pair-in : tie.Need-cast-pair-in Inv-loop μ-loop
 cast-pair-in c = search needs
@@ -32,7 +44,7 @@ enum-told c = search needs
 returns : tie.Need-returns Inv-loop μ-loop
 returns c =
     first-least _ _ _ _
-    (least-here _ _ _ (c .before .before .before .before .loop .inv .1) (parted-pair _ _ _ _ _ _ (sym (c .enum-told .given .1) ∙ c .before .before .pair-in .ensures)))
+    (least-here _ _ _ (c .before .before .before .before .before .loop .inv .1) (parted-pair _ _ _ _ _ _ (sym (c .enum-told .given .1) ∙ c .before .before .pair-in .ensures)))
 
 enum-told-2 : tie.Need-enum-told-2 Inv-loop μ-loop
 enum-told-2 c = search needs
@@ -45,7 +57,18 @@ loop-less c = search needs
 
 loop-again : tie.Need-loop-again Inv-loop μ-loop
 loop-again c =
-    (omega arith, least-next _ _ _ (c .before .before .before .before .loop .inv .1) (omega arith) (parted-none _ _ _ _ (sym (c .enum-told2 .given .1) ∙ c .before .before .pair-in .ensures)))
+    let loop = c .before .before .loop in
+    let start = c .before .before .before .before in
+    let a = start .args in
+    let names = a .self .names in
+    let clashes = clash (now (a .table)) (a .m) names in (
+      omega arith,
+      least-next _ _ _ (loop .inv .1) (omega arith)
+          (⊎-elim
+          (λ v. parted-none _ _ _ _ (sym (v .3 .given .1) ∙ v .1 .ensures))
+          (λ v. parted-own (a .n) clashes names (start .pre .2) (loop .c) (omega arith) (v .left))
+          (c .if1 .came)),
+    )
 
 returns-2 : tie.Need-returns-2 Inv-loop μ-loop
 returns-2 c = first-least _ _ _ _ (least-gone _ _ _ (c .before .loop .inv .1) (omega arith))
@@ -57,6 +80,9 @@ first-parted-spec =
     Inv-loop
     μ-loop
     loop-holds
+    mul-if1
+    array-read-if1
+    cast-if1
     cast-pair-in
     pair-in-requires
     enum-told

@@ -1,0 +1,744 @@
+#include "plain.h"
+
+#include <string.h>
+
+/* Counting is compiled out of the build that is timed. */
+#ifdef PLAIN_COUNT
+#define COUNT(what, times) (plain_counts.what += (times))
+#else
+#define COUNT(what, times) ((void)0)
+#endif
+
+struct plain_counts plain_counts;
+
+enum {
+    MOST_STATES = 256,
+    MOST_LABELS = 64,
+    MOST_OBSERVATIONS = 65535,
+    HEADER_BITS = 37,
+    HEADER_BYTES = 5,
+    COLOUR_BITS = 6,
+    LABEL_BITS = 6,
+    STATE_BITS = 8,
+    EDGE_BITS = 22,
+    NONE = 0xffff /* no state; every state is below 256 */
+};
+
+enum refusal {
+    TOO_SHORT = 1,
+    START,
+    EDGE_COUNT,
+    MISSING,
+    EXCESS,
+    FILLING,
+    OUTSIDE,
+    ORDER,
+    REPEATED,
+    ANSWER_ROOM,
+    CLASS_ROOM,
+    ROOM,
+    OBSERVATION,
+    LISTS
+};
+
+static uint64_t refused(enum refusal number, size_t place)
+{
+    return (uint64_t)place * 256 + number;
+}
+
+struct header {
+    size_t n, m, start, e;
+};
+
+static size_t edges_begin(size_t n)
+{
+    return HEADER_BITS + COLOUR_BITS * n;
+}
+
+static size_t file_bits(size_t n, size_t e)
+{
+    return edges_begin(n) + EDGE_BITS * e;
+}
+
+static size_t bytes_for(size_t bits)
+{
+    return (bits + 7) / 8;
+}
+
+/* Reading bits. */
+
+static inline uint64_t eight_bytes(const uint8_t *at)
+{
+    return (uint64_t)at[0] << 56 | (uint64_t)at[1] << 48 | (uint64_t)at[2] << 40 | (uint64_t)at[3] << 32 |
+           (uint64_t)at[4] << 24 | (uint64_t)at[5] << 16 | (uint64_t)at[6] << 8 | (uint64_t)at[7];
+}
+
+/* The bits from `bit` on, from the top of the answer down: at least 57 of them, with zeros past the end. */
+static inline uint64_t window(const uint8_t *file, size_t length, size_t bit)
+{
+    size_t from = bit / 8;
+    uint64_t bits = 0;
+    if (from + 8 <= length) {
+        bits = eight_bytes(file + from);
+    } else {
+        for (size_t i = 0; i < 8 && from + i < length; i++)
+            bits |= (uint64_t)file[from + i] << (56 - 8 * i);
+    }
+    return bits << bit % 8;
+}
+
+/* Writing bits: whole words go out as they fill, so that nothing behind the last byte is touched. */
+
+struct writer {
+    uint8_t *at;
+    uint64_t held;
+    unsigned bits;
+};
+
+static inline void push(struct writer *to, unsigned width, uint64_t value)
+{
+    to->held = to->held << width | value;
+    to->bits += width;
+    if (to->bits >= 32) {
+        to->bits -= 32;
+        uint32_t word = (uint32_t)(to->held >> to->bits);
+        to->at[0] = (uint8_t)(word >> 24);
+        to->at[1] = (uint8_t)(word >> 16);
+        to->at[2] = (uint8_t)(word >> 8);
+        to->at[3] = (uint8_t)word;
+        to->at += 4;
+    }
+}
+
+static void push_rest(struct writer *to)
+{
+    to->held <<= 32 - to->bits;
+    for (unsigned shift = 24; to->bits > 0; shift -= 8) {
+        *to->at++ = (uint8_t)(to->held >> shift);
+        to->bits = to->bits > 8 ? to->bits - 8 : 0;
+    }
+}
+
+static void push_header(struct writer *to, const struct header *h)
+{
+    push(to, STATE_BITS, h->n - 1);
+    push(to, LABEL_BITS, h->m - 1);
+    push(to, STATE_BITS, h->start);
+    push(to, 15, h->e);
+}
+
+static inline void push_edge(struct writer *to, size_t source, size_t label, size_t target)
+{
+    push(to, EDGE_BITS, (source << LABEL_BITS | label) << STATE_BITS | target);
+}
+
+/* The tests of edges. */
+
+/* An edge as its field holds it: source, label, target. */
+static inline unsigned source_of(unsigned edge)
+{
+    return edge >> (LABEL_BITS + STATE_BITS);
+}
+
+static inline unsigned label_of(unsigned edge)
+{
+    return edge >> STATE_BITS & (MOST_LABELS - 1);
+}
+
+static inline unsigned target_of(unsigned edge)
+{
+    return edge & (MOST_STATES - 1);
+}
+
+/* Which of 7, 8 and 9 an edge earns, or 0. `next` is 256 times its source plus its label plus 1 for the edge before, 0 for none. */
+static uint64_t edge_fault(const struct header *h, size_t i, unsigned source, unsigned label, unsigned target, unsigned next)
+{
+    unsigned here = (source << 8 | label) + 1;
+    if (source >= h->n || label >= h->m || target >= h->n)
+        return refused(OUTSIDE, i);
+    if (here < next)
+        return refused(ORDER, i);
+    return here == next ? refused(REPEATED, i) : 0;
+}
+
+/*
+ * Edges that go by are tested without a branch: the sign bit of `bad` stays clear as long as each is in order. Only a list in which it
+ * was set is gone through again, to find the first fault. Sources ascend where all is in order, so the last one is tested for all.
+ */
+struct passing {
+    int most_label, most_target; /* the largest ones that are allowed */
+    int source, key;             /* of the last edge; its key is source and label side by side, which orders edges as the file does */
+    int bad;
+};
+
+static inline struct passing none_passed(const struct header *h)
+{
+    return (struct passing){(int)h->m - 1, (int)h->n - 1, 0, -1, 0};
+}
+
+static inline void pass(struct passing *p, unsigned key, unsigned source, unsigned label, unsigned target)
+{
+    p->bad |= ((int)key - p->key - 1) | (p->most_label - (int)label) | (p->most_target - (int)target);
+    p->source = (int)source;
+    p->key = (int)key;
+}
+
+static inline int all_passed(const struct passing *p)
+{
+    return p->bad >= 0 && p->source <= p->most_target;
+}
+
+static inline void pass_field(struct passing *p, unsigned edge)
+{
+    pass(p, edge >> STATE_BITS, source_of(edge), label_of(edge), target_of(edge));
+}
+
+static inline void pass_listed(struct passing *p, const uint8_t *edge)
+{
+    pass(p, (unsigned)edge[0] << 8 | edge[1], edge[0], edge[1], edge[2]);
+}
+
+/* The edges of a file, four at a time: 88 bits, so that each four begin at the same bit of a byte. */
+
+enum { FOUR_BYTES = 4 * EDGE_BITS / 8, FOUR_REACH = 13 }; /* bytes that four edges take, and bytes that reading them reaches */
+
+static inline void read_four(const uint8_t *at, unsigned bit, unsigned edges[4])
+{
+    uint64_t low = eight_bytes(at) << bit;
+    uint64_t high = eight_bytes(at + 5) << (bit + 4);
+    edges[0] = (unsigned)(low >> 42);
+    edges[1] = (unsigned)(low >> 20) & 0x3fffff;
+    edges[2] = (unsigned)(high >> 42);
+    edges[3] = (unsigned)(high >> 20) & 0x3fffff;
+}
+
+static inline unsigned read_one(const uint8_t *file, size_t length, size_t bit)
+{
+    return (unsigned)(window(file, length, bit) >> (64 - EDGE_BITS));
+}
+
+static uint64_t first_fault(const uint8_t *file, size_t length, const struct header *h)
+{
+    unsigned next = 0;
+    uint64_t fault = 0;
+    for (size_t i = 0; i < h->e && fault == 0; i++) {
+        unsigned edge = read_one(file, length, edges_begin(h->n) + EDGE_BITS * i);
+        fault = edge_fault(h, i, source_of(edge), label_of(edge), target_of(edge), next);
+        next = (source_of(edge) << 8 | label_of(edge)) + 1;
+    }
+    return fault;
+}
+
+/* What a call looks up: the labels that each state has, a bit each, and their targets. */
+struct table {
+    size_t m;
+    uint64_t all; /* all m labels */
+    uint64_t has[MOST_STATES];
+    uint8_t target[MOST_STATES * MOST_LABELS]; /* anything where there is no edge */
+};
+
+/* Edges come by ascending source, so the labels of the current source are kept at hand. */
+struct filling {
+    unsigned source;
+    uint64_t labels;
+};
+
+static inline void fill(struct table *table, struct filling *now, unsigned edge)
+{
+    unsigned source = source_of(edge);
+    uint64_t before = source == now->source ? now->labels : 0;
+    now->source = source;
+    now->labels = before | (uint64_t)1 << label_of(edge);
+    table->has[source] = now->labels;
+    table->target[edge >> STATE_BITS] = (uint8_t)target_of(edge);
+}
+
+/* Tests the edges of a file in one pass, and puts them into the table where there is one. */
+static inline uint64_t test_edges(const uint8_t *file, size_t length, const struct header *h, struct table *table)
+{
+    struct passing passing = none_passed(h);
+    struct filling filling = {MOST_STATES, 0};
+    size_t bit = edges_begin(h->n);
+    size_t e = h->e;
+    size_t i = 0;
+    for (; i + 4 <= e && bit / 8 + FOUR_REACH <= length; i += 4, bit += 4 * EDGE_BITS) {
+        unsigned edges[4];
+        read_four(file + bit / 8, bit % 8, edges);
+        for (size_t k = 0; k < 4; k++) {
+            pass_field(&passing, edges[k]);
+            if (table != NULL)
+                fill(table, &filling, edges[k]);
+        }
+    }
+    for (; i < e; i++, bit += EDGE_BITS) {
+        unsigned edge = read_one(file, length, bit);
+        pass_field(&passing, edge);
+        if (table != NULL)
+            fill(table, &filling, edge);
+    }
+    COUNT(edges_decoded, e);
+    return all_passed(&passing) ? 0 : first_fault(file, length, h);
+}
+
+/* The tests of a file. */
+
+/* Refusals 1 to 6. */
+static inline uint64_t test_header(const uint8_t *file, size_t length, struct header *h)
+{
+    if (length < HEADER_BYTES)
+        return refused(TOO_SHORT, 0);
+    uint64_t bits = window(file, length, 0);
+    h->n = (bits >> 56) + 1;
+    h->m = (bits >> 50 & 63) + 1;
+    h->start = bits >> 42 & 255;
+    h->e = bits >> 27 & 32767;
+    if (h->start >= h->n)
+        return refused(START, 0);
+    if (h->e > h->n * h->m)
+        return refused(EDGE_COUNT, 0);
+    size_t used = file_bits(h->n, h->e);
+    size_t needed = bytes_for(used);
+    if (length < needed)
+        return refused(MISSING, 0);
+    if (length > needed)
+        return refused(EXCESS, 0);
+    if (window(file, length, used) != 0)
+        return refused(FILLING, 0);
+    return 0;
+}
+
+static inline uint64_t test_file(const uint8_t *file, size_t length, struct header *h)
+{
+    uint64_t fault = test_header(file, length, h);
+    return fault != 0 ? fault : test_edges(file, length, h, NULL);
+}
+
+/* The same, with the edges put into a table. */
+static inline uint64_t test_into_table(const uint8_t *file, size_t length, struct header *h, struct table *table)
+{
+    uint64_t fault = test_header(file, length, h);
+    if (fault != 0)
+        return fault;
+    table->m = h->m;
+    table->all = ~(uint64_t)0 >> (MOST_LABELS - h->m);
+    memset(table->has, 0, h->n * sizeof *table->has);
+    return test_edges(file, length, h, table);
+}
+
+static void read_colours(const uint8_t *file, size_t length, size_t n, uint8_t *colours)
+{
+    enum { TOGETHER = 8 }; /* colours in one window */
+    size_t bit = HEADER_BITS;
+    for (size_t s = 0; s < n; s += TOGETHER, bit += TOGETHER * COLOUR_BITS) {
+        uint64_t bits = window(file, length, bit);
+        size_t now = n - s < TOGETHER ? n - s : TOGETHER;
+        for (size_t i = 0; i < now; i++)
+            colours[s + i] = (uint8_t)(bits >> (58 - COLOUR_BITS * i) & 63);
+    }
+}
+
+static void tell_header(const struct header *h, uint64_t values[4])
+{
+    values[0] = h->n;
+    values[1] = h->m;
+    values[2] = h->start;
+    values[3] = h->e;
+}
+
+uint64_t plain_check(const uint8_t *file, size_t file_length,
+                     uint64_t values[4])
+{
+    struct header h;
+    uint64_t fault = test_file(file, file_length, &h);
+    if (fault == 0)
+        tell_header(&h, values);
+    return fault;
+}
+
+static inline void lay(uint8_t *at, unsigned edge)
+{
+    at[0] = (uint8_t)source_of(edge);
+    at[1] = (uint8_t)label_of(edge);
+    at[2] = (uint8_t)target_of(edge);
+}
+
+static void read_edges(const uint8_t *file, size_t length, const struct header *h, uint8_t *edges)
+{
+    size_t bit = edges_begin(h->n);
+    size_t e = h->e;
+    size_t i = 0;
+    for (; i + 4 <= e && bit / 8 + FOUR_REACH <= length; i += 4, bit += 4 * EDGE_BITS) {
+        unsigned four[4];
+        read_four(file + bit / 8, bit % 8, four);
+        for (size_t k = 0; k < 4; k++)
+            lay(edges + 3 * (i + k), four[k]);
+    }
+    for (; i < e; i++, bit += EDGE_BITS)
+        lay(edges + 3 * i, read_one(file, length, bit));
+    COUNT(edges_decoded, e);
+}
+
+uint64_t plain_unpack(const uint8_t *file, size_t file_length,
+                      uint8_t *colours, size_t colours_length,
+                      uint8_t *edges, size_t edges_length,
+                      uint64_t values[4])
+{
+    struct header h;
+    uint64_t fault = test_file(file, file_length, &h);
+    if (fault != 0)
+        return fault;
+    if (colours_length < h.n || edges_length < 3 * h.e)
+        return refused(ROOM, 0);
+    read_colours(file, file_length, h.n, colours);
+    read_edges(file, file_length, &h, edges);
+    tell_header(&h, values);
+    return 0;
+}
+
+/* Packing. */
+
+static uint8_t largest(const uint8_t *values, size_t count)
+{
+    uint8_t most = 0;
+    for (size_t i = 0; i < count; i++)
+        most = values[i] > most ? values[i] : most;
+    return most;
+}
+
+static uint64_t first_fault_listed(const uint8_t *edges, const struct header *h)
+{
+    unsigned next = 0;
+    uint64_t fault = 0;
+    for (size_t i = 0; i < h->e && fault == 0; i++, edges += 3) {
+        fault = edge_fault(h, i, edges[0], edges[1], edges[2], next);
+        next = ((unsigned)edges[0] << 8 | edges[1]) + 1;
+    }
+    return fault;
+}
+
+static uint64_t test_list(const uint8_t *edges, const struct header *h)
+{
+    struct passing passing = none_passed(h);
+    for (size_t i = 0; i < h->e; i++)
+        pass_listed(&passing, edges + 3 * i);
+    return all_passed(&passing) ? 0 : first_fault_listed(edges, h);
+}
+
+static uint64_t test_lists(const uint8_t *colours, const uint8_t *edges, size_t edges_length, const struct header *h)
+{
+    if (h->n < 1 || h->n > MOST_STATES || h->m < 1 || h->m > MOST_LABELS)
+        return refused(LISTS, 0);
+    if (largest(colours, h->n) > 63 || edges_length % 3 != 0)
+        return refused(LISTS, 0);
+    if (h->start >= h->n)
+        return refused(START, 0);
+    if (h->e > h->n * h->m)
+        return refused(EDGE_COUNT, 0);
+    return test_list(edges, h);
+}
+
+static void push_colours(struct writer *to, const uint8_t *colours, size_t n)
+{
+    for (size_t s = 0; s < n; s++)
+        push(to, COLOUR_BITS, colours[s]);
+}
+
+uint64_t plain_pack(const uint8_t *colours, size_t colours_length,
+                    const uint8_t *edges, size_t edges_length,
+                    size_t m, size_t start,
+                    uint8_t *room, size_t room_length,
+                    uint64_t values[1])
+{
+    struct header h = {colours_length, m, start, edges_length / 3};
+    uint64_t fault = test_lists(colours, edges, edges_length, &h);
+    if (fault != 0)
+        return fault;
+    size_t length = bytes_for(file_bits(h.n, h.e));
+    if (room_length < length)
+        return refused(ANSWER_ROOM, 0);
+    struct writer to = {room, 0, 0};
+    push_header(&to, &h);
+    push_colours(&to, colours, h.n);
+    for (size_t i = 0; i < h.e; i++)
+        push_edge(&to, edges[3 * i], edges[3 * i + 1], edges[3 * i + 2]);
+    push_rest(&to);
+    values[0] = length;
+    return 0;
+}
+
+/* Tracing. */
+
+static size_t first_outside(const uint8_t *observations, size_t count, size_t m)
+{
+    size_t i = 0;
+    while (i < count && observations[i] < m)
+        i++;
+    return i;
+}
+
+/* Answers how many observations were taken. */
+static size_t ride(const struct table *table, const uint8_t *hues, size_t start,
+                   const uint8_t *observations, size_t count, uint8_t *colours)
+{
+    size_t state = start;
+    for (size_t i = 0; i < count; i++) {
+        size_t label = observations[i];
+        colours[i] = hues[state];
+        COUNT(look_ups, 1);
+        if ((table->has[state] >> label & 1) == 0)
+            return i;
+        state = table->target[state * MOST_LABELS + label];
+    }
+    colours[count] = hues[state];
+    return count;
+}
+
+uint64_t plain_trace(const uint8_t *file, size_t file_length,
+                     const uint8_t *observations, size_t observations_length,
+                     uint8_t *colours, size_t colours_length,
+                     uint64_t values[2])
+{
+    struct table table;
+    uint8_t hues[MOST_STATES];
+    struct header h;
+    uint64_t fault = test_into_table(file, file_length, &h, &table);
+    if (fault != 0)
+        return fault;
+    if (observations_length > MOST_OBSERVATIONS || colours_length < observations_length + 1)
+        return refused(ROOM, 0);
+    /* The largest is found many at a time; only a list that is refused is then searched one by one. */
+    if (largest(observations, observations_length) >= h.m)
+        return refused(OBSERVATION, first_outside(observations, observations_length, h.m));
+    read_colours(file, file_length, h.n, hues);
+    size_t taken = ride(&table, hues, h.start, observations, observations_length, colours);
+    values[0] = taken < observations_length;
+    values[1] = taken < observations_length ? taken : 0;
+    return 0;
+}
+
+/* Reducing. */
+
+/* The classes: of each state the name of its class and the next member behind it, NONE for the last. */
+struct partition {
+    uint8_t name[MOST_STATES];
+    uint16_t next[MOST_STATES];
+};
+
+/* All states of one colour form one class. Answers how many there are. */
+static size_t by_colour(struct partition *p, const uint8_t *hues, size_t n)
+{
+    uint16_t last[64]; /* the last member so far of each colour's class */
+    memset(last, 0xff, sizeof last);
+    size_t count = 0;
+    for (size_t s = 0; s < n; s++) {
+        size_t before = last[hues[s]];
+        if (before == NONE) {
+            p->name[s] = (uint8_t)s;
+            count++;
+        } else {
+            p->name[s] = p->name[before];
+            p->next[before] = (uint16_t)s;
+        }
+        p->next[s] = NONE;
+        last[hues[s]] = (uint16_t)s;
+    }
+    return count;
+}
+
+/* Whether two states that have all m labels conflict. */
+static inline int conflict_full(const uint8_t *name, const uint8_t *from_a, const uint8_t *from_b, size_t m)
+{
+    for (size_t y = 0; y < m; y++) {
+        COUNT(look_ups, 2);
+        if (name[from_a[y]] != name[from_b[y]])
+            return 1;
+    }
+    return 0;
+}
+
+/* Whether a and b conflict. Only labels that both have are tried, in ascending order. */
+static inline int conflict(const struct table *table, const uint8_t *name, size_t a, size_t b)
+{
+    const uint8_t *from_a = table->target + a * MOST_LABELS;
+    const uint8_t *from_b = table->target + b * MOST_LABELS;
+    uint64_t both = table->has[a] & table->has[b];
+    COUNT(pair_tests, 1);
+    if (both == table->all)
+        return conflict_full(name, from_a, from_b, table->m);
+    for (; both != 0; both &= both - 1) {
+        unsigned y = (unsigned)__builtin_ctzll(both);
+        COUNT(look_ups, 2);
+        if (name[from_a[y]] != name[from_b[y]])
+            return 1;
+    }
+    return 0;
+}
+
+/* Whether class c has a conflicting pair. */
+static int has_conflict(const struct partition *p, const struct table *table, size_t c)
+{
+    for (size_t a = c; a != NONE; a = p->next[a])
+        for (size_t b = p->next[a]; b != NONE; b = p->next[b])
+            if (conflict(table, p->name, a, b))
+                return 1;
+    return 0;
+}
+
+/* The class with the smallest name that has a conflicting pair; n where there is none. */
+static size_t first_parted(const struct partition *p, const struct table *table, size_t n)
+{
+    COUNT(looks, 1);
+    for (size_t c = 0; c < n; c++)
+        if (p->name[c] == c && has_conflict(p, table, c))
+            return c;
+    return n;
+}
+
+/* Members of the class that is split, ascending, with the group of each. */
+struct groups {
+    size_t members;
+    size_t groups;
+    uint8_t member[MOST_STATES];
+    uint8_t group[MOST_STATES];
+};
+
+/* The smallest group that no earlier conflicting member of member i has. */
+static size_t free_group(const struct groups *g, size_t i, const struct partition *p, const struct table *table)
+{
+    uint8_t taken[MOST_STATES + 1] = {0};
+    for (size_t j = 0; j < i; j++)
+        if (!taken[g->group[j]] && conflict(table, p->name, g->member[j], g->member[i]))
+            taken[g->group[j]] = 1;
+    size_t free = 0;
+    while (taken[free])
+        free++;
+    return free;
+}
+
+static void divide(struct groups *g, const struct partition *p, const struct table *table, size_t c)
+{
+    g->members = 0;
+    g->groups = 0;
+    for (size_t s = c; s != NONE; s = p->next[s])
+        g->member[g->members++] = (uint8_t)s;
+    for (size_t i = 0; i < g->members; i++) {
+        size_t group = free_group(g, i, p, table);
+        g->group[i] = (uint8_t)group;
+        if (group == g->groups)
+            g->groups++;
+    }
+}
+
+/* Each group becomes a class, named by its first member. */
+static void split(struct partition *p, const struct table *table, size_t c)
+{
+    struct groups g;
+    uint16_t last[MOST_STATES]; /* the last member so far of each group */
+    divide(&g, p, table, c);
+    memset(last, 0xff, g.groups * sizeof *last);
+    for (size_t i = 0; i < g.members; i++) {
+        size_t s = g.member[i];
+        size_t before = last[g.group[i]];
+        if (before == NONE) {
+            p->name[s] = (uint8_t)s;
+        } else {
+            p->name[s] = p->name[before];
+            p->next[before] = (uint16_t)s;
+        }
+        p->next[s] = NONE;
+        last[g.group[i]] = (uint16_t)s;
+    }
+}
+
+/* Rounds until no class has a conflicting pair; answers how many. */
+static size_t settle(struct partition *p, const struct table *table, size_t n)
+{
+    size_t rounds = 0;
+    for (size_t c = first_parted(p, table, n); c < n; c = first_parted(p, table, n)) {
+        split(p, table, c);
+        rounds++;
+    }
+    return rounds;
+}
+
+/* Numbers the classes by ascending name; answers how many there are. */
+static size_t number_classes(const struct partition *p, size_t n, uint16_t *classes)
+{
+    size_t count = 0;
+    for (size_t s = 0; s < n; s++)
+        classes[s] = p->name[s] == s ? (uint16_t)count++ : classes[p->name[s]];
+    return count;
+}
+
+/* Gives the first member of each class the edges of the others, and counts the edges of the classes. */
+static size_t gather(const struct partition *p, struct table *table, size_t n)
+{
+    size_t e = 0;
+    for (size_t c = 0; c < n; c++) {
+        if (p->name[c] != c)
+            continue;
+        for (size_t s = p->next[c]; s != NONE; s = p->next[s]) {
+            for (uint64_t more = table->has[s] & ~table->has[c]; more != 0; more &= more - 1) {
+                unsigned y = (unsigned)__builtin_ctzll(more);
+                table->target[c * MOST_LABELS + y] = table->target[s * MOST_LABELS + y];
+            }
+            table->has[c] |= table->has[s];
+        }
+        e += (size_t)__builtin_popcountll(table->has[c]);
+    }
+    return e;
+}
+
+static void push_row(struct writer *to, const struct table *table, size_t c, const uint16_t *classes)
+{
+    for (uint64_t labels = table->has[c]; labels != 0; labels &= labels - 1) {
+        unsigned y = (unsigned)__builtin_ctzll(labels);
+        push_edge(to, classes[c], y, classes[table->target[c * MOST_LABELS + y]]);
+    }
+}
+
+/* Writes the file of the classes. */
+static void write_classes(const struct partition *p, const struct table *table, const uint8_t *hues, size_t n,
+                          const struct header *reduced, const uint16_t *classes, uint8_t *answer)
+{
+    struct writer to = {answer, 0, 0};
+    push_header(&to, reduced);
+    for (size_t c = 0; c < n; c++)
+        if (p->name[c] == c)
+            push(&to, COLOUR_BITS, hues[c]);
+    for (size_t c = 0; c < n; c++)
+        if (p->name[c] == c)
+            push_row(&to, table, c, classes);
+    push_rest(&to);
+}
+
+uint64_t plain_reduce(const uint8_t *file, size_t file_length,
+                      uint8_t *answer, size_t answer_length,
+                      uint16_t *classes, size_t classes_length,
+                      uint64_t values[4])
+{
+    struct table table;
+    uint8_t hues[MOST_STATES];
+    struct partition p;
+    struct header h;
+    uint64_t fault = test_into_table(file, file_length, &h, &table);
+    if (fault != 0)
+        return fault;
+    if (answer_length < file_length)
+        return refused(ANSWER_ROOM, 0);
+    if (classes_length < h.n)
+        return refused(CLASS_ROOM, 0);
+    read_colours(file, file_length, h.n, hues);
+    size_t colours = by_colour(&p, hues, h.n);
+    size_t rounds = settle(&p, &table, h.n);
+    struct header reduced = {.m = h.m};
+    reduced.n = number_classes(&p, h.n, classes);
+    reduced.start = classes[h.start];
+    reduced.e = gather(&p, &table, h.n);
+    write_classes(&p, &table, hues, h.n, &reduced, classes, answer);
+    values[0] = reduced.n;
+    values[1] = colours;
+    values[2] = rounds;
+    values[3] = bytes_for(file_bits(reduced.n, reduced.e));
+    return 0;
+}
