@@ -7,8 +7,8 @@ use mathlib.Core.Option.{Option, none, some}
 use native.Mathlib.Omega.{arith}
 use native.Mathlib.Numerals.{add-one}
 use lib.Dec.{eqb, ltb}
-use lib.ListN.{length, getD, set, take, replicate, length-set, length-replicate}
-use lib.Seq.{take-suc-set, getD-set-same, getD-set-other}
+use lib.ListN.{length, getD, set, take, replicate, length-set, length-replicate, getD-replicate}
+use lib.Seq.{take-suc, take-suc-set, getD-set-same, getD-set-other}
 use borrow.Author.Tests.{lt-ltb, le-ltb, eq-eqb, ne-eqb, ltb-true, ltb-false, eqb-true, eqb-false}
 use Rattle.meaning.specs.Pick.{pick}
 use Rattle.meaning.specs.Cases.{test, no-both, and-intro, and-left, and-right}
@@ -28,6 +28,10 @@ and-false : (x : Bool) → x && false ≡ false
 and-false true = refl
 and-false false = refl
 
+or-true : (x : Bool) → x || true ≡ true
+or-true true = refl
+or-true false = refl
+
 -- ---- any, for a loop upward
 
 pub any-start : (p : ℕ → Bool) → any p 0 ≡ false
@@ -40,6 +44,15 @@ any-next p i h e = rw (add-one i, any, e, h)
 
 pub any-empty : (p : ℕ → Bool) (n : ℕ) → ((i : ℕ) → i < n → p i ≡ false) → any p n ≡ false
 any-empty p n h = test (any p n) (λ q. let w = any-elim p n q in no-both (w .2) (h (w .0) (w .1))) (λ q. q)
+
+-- states that do not pass leave it as it is
+pub any-skip : (p : ℕ → Bool) (t u : ℕ) → t ≤ u → ((x : ℕ) → t ≤ x → x < u → p x ≡ false) → any p u ≡ any p t
+unfolding any
+any-skip p t zero h miss = let e : 0 ≡ t = omega arith in ap (any p) e
+any-skip p t (suc u) h miss = test (eqb t (suc u))
+    (λ q. rw (eqb-true t (suc u) q))
+    (λ q. let l : t ≤ u = omega (arith, eqb-false t (suc u) q) in
+    rw (any, miss u l (omega arith)) (any-skip p t u l (λ x k b. miss x k (omega arith))))
 
 -- ---- colours
 
@@ -207,19 +220,30 @@ module _ (clashes : ℕ → ℕ → Bool) (P G : List ℕ) (c s : ℕ) where
   unfolding taken any
   taken-next g t = rw (add-one t, any)
 
-  same-mark : (marks now : List ℕ) (t : ℕ) → Marks marks t → now ≡ marks → ((g : ℕ) → eqb (at P t) c && (clashes t s && eqb (at G t) g) ≡ false) → Marks now (t + 1)
-  same-mark marks now t r e h = record {
-    long = rw e (r .long);
-    says = λ g l.
-        let same : taken clashes P G c s g (t + 1) ≡ taken clashes P G c s g t = taken-next g t ∙ rw (h g) in
-        rw (e, same) (r .says g l);
-  }
+  same-mark : (marks now : List ℕ) (t u : ℕ) → Marks marks t → now ≡ marks → ((g : ℕ) → g < 256 → taken clashes P G c s g u ≡ taken clashes P G c s g t) → Marks now u
+  same-mark marks now t u r e h = record { long = rw e (r .long); says = λ g l. rw (e, h g l) (r .says g l) }
 
-  pub marks-other : (marks now : List ℕ) (t : ℕ) → Marks marks t → now ≡ marks → (at P t ≡ c → ⊥) → Marks now (t + 1)
-  marks-other marks now t r e h = same-mark marks now t r e (λ g. rw (ne-eqb _ _ h))
+  -- states that are no members mark nothing
+  pub marks-skip : (marks : List ℕ) (t u : ℕ) → Marks marks t → t ≤ u → ((x : ℕ) → t ≤ x → x < u → at P x ≡ c → ⊥) → Marks marks u
+  unfolding taken
+  marks-skip marks t u r l h = same-mark marks marks t u r refl (λ g _. any-skip _ t u l (λ x k b. rw (ne-eqb _ _ (h x k b))))
 
   pub marks-calm : (marks now : List ℕ) (t : ℕ) → Marks marks t → now ≡ marks → clashes t s ≡ false → Marks now (t + 1)
-  marks-calm marks now t r e h = same-mark marks now t r e (λ g. rw h (and-false (eqb (at P t) c)))
+  marks-calm marks now t r e h = same-mark marks now t (t + 1) r e (λ g _. taken-next g t ∙ rw (h, and-false (eqb (at P t) c)))
+
+  -- a group that is marked needs no other member
+  pub marks-again : (marks now : List ℕ) (t : ℕ) → Marks marks t → now ≡ marks → at G t < 256 → (at marks (at G t) ≡ 0 → ⊥) → Marks now (t + 1)
+  marks-again marks now t r e l h = same-mark marks now t (t + 1) r e (λ g k. taken-next g t ∙ test (eqb (at G t) g) (same g) (other g))
+    where
+      marked : taken clashes P G c s (at G t) t ≡ true
+      marked = test (taken clashes P G c s (at G t) t) (λ q. q) (λ q. absurd (h (r .says (at G t) l ∙ rw q)))
+
+      same : (g : ℕ) → eqb (at G t) g ≡ true → (eqb (at P t) c && (clashes t s && eqb (at G t) g)) || taken clashes P G c s g t ≡ taken clashes P G c s g t
+      same g q = let all : taken clashes P G c s g t ≡ true = ap (λ (k : ℕ). taken clashes P G c s k t) (sym (eqb-true (at G t) g q)) ∙ marked in
+          rw (all, or-true (eqb (at P t) c && (clashes t s && eqb (at G t) g)))
+
+      other : (g : ℕ) → eqb (at G t) g ≡ false → (eqb (at P t) c && (clashes t s && eqb (at G t) g)) || taken clashes P G c s g t ≡ taken clashes P G c s g t
+      other g q = rw (q, and-false (clashes t s), and-false (eqb (at P t) c))
 
   pub marks-more : (marks now : List ℕ) (t g : ℕ) → Marks marks t → now ≡ set marks g 1 → g ≡ at G t → at P t ≡ c → clashes t s ≡ true → at G t < 256
       → Marks now (t + 1)
@@ -291,15 +315,16 @@ module _ (clashes : ℕ → ℕ → Bool) (P : List ℕ) (c : ℕ) where
   abbrev member : ℕ → Bool
   member s = eqb (at P s) c
 
-  -- the groups of the states before s stand in the list
+  -- the groups of the states before s stand in the list, and 0 from there on
   pub record Grouped (G : List ℕ) (s : ℕ) : Type 0 where
     pub long : length G ≡ 256
     pub holds : take s G ≡ groups member clashes s
     pub low : (t : ℕ) → t < s → at G t < 256
+    pub rest : (t : ℕ) → s ≤ t → at G t ≡ 0
 
-  pub grouped-none : (G : List ℕ) → length G ≡ 256 → Grouped G 0
+  pub grouped-none : (G : List ℕ) → G ≡ replicate 256 0 → Grouped G 0
   unfolding groups
-  grouped-none G h = record { long = h; holds = refl; low = λ t l. absurd (omega arith) }
+  grouped-none G h = rw h record { long = length-replicate {A = ℕ} 256 0; holds = refl; low = λ t l. absurd (omega arith); rest = λ t l. blank clashes P [] c 0 256 t }
 
   -- the group of s, from the groups of the states before it
   unfoldable next : List ℕ → ℕ → ℕ
@@ -322,10 +347,174 @@ module _ (clashes : ℕ → ℕ → Bool) (P : List ℕ) (c : ℕ) where
     low = λ t h. test (eqb t s)
         (λ q. let z : t ≡ s = eqb-true t s q in rw z (let w = group-low clashes P G c s in rw (getD-set-same G s v 0 (omega (arith, r .long)), e) (omega (arith, w))))
         (λ q. let z = eqb-false t s q in rw (getD-set-other G s t v 0 (λ u. z u)) (r .low t (omega arith)));
+    rest = λ t h. let z : t ≡ s → ⊥ = λ u. omega arith in rw (getD-set-other G s t v 0 z) (r .rest t (omega arith));
   }
 
-  pub grouped-all : (G : List ℕ) (s n : ℕ) → Grouped G s → s ≡ n → (length G ≡ 256) × (take n G ≡ groups member clashes n)
-  grouped-all G s n r e = (r .long, subst (λ (k : ℕ). take k G ≡ groups member clashes k) e (r .holds))
+  -- a state that is no member has group 0
+  grouped-other : (G : List ℕ) (s : ℕ) → Grouped G s → s < 256 → (at P s ≡ c → ⊥) → Grouped G (s + 1)
+  unfolding groups
+  grouped-other G s r l h = record {
+    long = r .long;
+    holds =
+        let more : groups member clashes (s + 1) ≡ groups member clashes s ++ (0 ∷ []) = rw (add-one s, groups, ne-eqb (at P s) c h) in
+        let one : take (s + 1) G ≡ take s G ++ (at G s ∷ []) = rw (add-one s) (take-suc G s 0 (omega (arith, r .long))) in
+        rw (more, one, r .holds, r .rest s (omega arith));
+    low = λ t k. test (eqb t s)
+        (λ q. let z : t ≡ s = eqb-true t s q in omega (arith, z, ap (at G) z, r .rest s (omega arith)))
+        (λ q. r .low t (omega (arith, eqb-false t s q)));
+    rest = λ t k. r .rest t (omega arith);
+  }
+
+  pub grouped-skip : (G : List ℕ) (s u : ℕ) → Grouped G s → s ≤ u → u ≤ 256 → ((x : ℕ) → s ≤ x → x < u → at P x ≡ c → ⊥) → Grouped G u
+  grouped-skip G s zero r h l miss = let e : s ≡ 0 = omega arith in subst (Grouped G) e r
+  grouped-skip G s (suc u) r h l miss = test (eqb s (suc u))
+      (λ q. subst (Grouped G) (eqb-true s (suc u) q) r)
+      (λ q. let k : s ≤ u = omega (arith, eqb-false s (suc u) q) in
+      rw (← add-one u) (grouped-other G u (grouped-skip G s u r k (omega arith) (λ x m b. miss x m (omega arith))) (omega arith) (miss u k (omega arith))))
+
+  pub grouped-all : (G : List ℕ) (s n : ℕ) → Grouped G s → s ≡ n → (length G ≡ 256) × (take n G ≡ groups member clashes n) × ((t : ℕ) → t < n → at G t < 256)
+  grouped-all G s n r e = let all = subst (Grouped G) e r in (all .long, all .holds, all .low)
+
+-- ---- new names
+
+module _ (n : ℕ) (P : List ℕ) (c : ℕ) (G : List ℕ) where
+  -- t has group g among the members
+  abbrev Of : ℕ → ℕ → Type 0
+  Of g t = (at P t ≡ c) × (at G t ≡ g)
+
+  -- f is 65,535 where no member before s has group g, and else the first that has
+  pub record First (s g f : ℕ) : Type 0 where
+    pub absent : f ≡ 65535 → (t : ℕ) → t < s → Of g t → ⊥
+    pub before : (f ≡ 65535 → ⊥) → f < s
+    pub of : (f ≡ 65535 → ⊥) → Of g f
+    pub least : (f ≡ 65535 → ⊥) → (t : ℕ) → t < f → Of g t → ⊥
+
+  -- the members before s are renamed, and the first of each group is known
+  pub record Renamed (names firsts : List ℕ) (s : ℕ) : Type 0 where
+    pub long : length names ≡ 256
+    pub wide : length firsts ≡ 256
+    pub done : (t : ℕ) → t < s → at names t ≡ renamed n P c G t
+    pub still : (t : ℕ) → s ≤ t → at names t ≡ at P t
+    pub known : (g : ℕ) → g < 256 → First s g (at firsts g)
+
+  pub renamed-none : (names firsts : List ℕ) → names ≡ P → length P ≡ 256 → firsts ≡ replicate 256 65535 → Renamed names firsts 0
+  renamed-none names firsts e l f = rw (e, f) record {
+    long = l;
+    wide = length-replicate {A = ℕ} 256 65535;
+    done = λ t h. absurd (omega arith);
+    still = λ t h. refl;
+    known = λ g h. let e : at (replicate 256 65535) g ≡ 65535 = getD-replicate 256 g 65535 0 h in rw e record {
+      absent = λ z t k. absurd (omega arith);
+      before = λ z. absurd (z refl);
+      of = λ z. absurd (z refl);
+      least = λ z. absurd (z refl);
+    };
+  }
+
+  module _ (names firsts : List ℕ) (s : ℕ) (r : Renamed names firsts s) where
+    -- states that are no members keep their names
+    pub renamed-skip : (u : ℕ) → s ≤ u → ((x : ℕ) → s ≤ x → x < u → at P x ≡ c → ⊥) → Renamed names firsts u
+    renamed-skip u h miss = record {
+      long = r .long;
+      wide = r .wide;
+      done = λ t l. test (ltb t s)
+          (λ q. r .done t (ltb-true t s q))
+          (λ q. let k : s ≤ t = ltb-false t s q in r .still t k ∙ renamed-other P c G t n (miss t k l));
+      still = λ t l. r .still t (omega arith);
+      known = λ g l. let f = r .known g l in record {
+        absent = λ z t k o. test (ltb t s) (λ q. f .absent z t (ltb-true t s q) o) (λ q. miss t (ltb-false t s q) k (o .0));
+        before = λ z. let b = f .before z in omega arith;
+        of = f .of;
+        least = f .least;
+      };
+    }
+
+    module _ (h : s < n) (few : n ≤ 256) (e : at P s ≡ c) where
+      abbrev g : ℕ
+      g = at G s
+
+      none-before : (f : ℕ) → ((t : ℕ) → t < f → Of g t → ⊥) → (k : ℕ) → k < f → mate P c G s k ≡ false
+      none-before f z k l = test (mate P c G s k)
+          (λ q. absurd (z k l (eqb-true _ _ (and-left (eqb (at P k) c) _ q), eqb-true _ _ (and-right (eqb (at P k) c) _ q))))
+          (λ q. q)
+
+      -- s is of group g, so nothing new is known of others
+      other : (d f : ℕ) → First s d f → (d ≡ g → ⊥) → First (s + 1) d f
+      other d f w z = record {
+        absent = λ q t k o. test (eqb t s)
+            (λ y. z (sym (o .1) ∙ ap (at G) (eqb-true t s y)))
+            (λ y. w .absent q t (omega (arith, eqb-false t s y)) o);
+        before = λ q. let b = w .before q in omega arith;
+        of = w .of;
+        least = w .least;
+      }
+
+      named : (f : ℕ) → f ≡ renamed n P c G s → (firsts′ : List ℕ) → length firsts′ ≡ 256 → ((d : ℕ) → d < 256 → First (s + 1) d (at firsts′ d))
+          → Renamed (set names s f) firsts′ (s + 1)
+      named f q firsts′ l w = record {
+        long = length-set names s f ∙ r .long;
+        wide = l;
+        done = λ t k. test (eqb t s)
+            (λ y. let z : t ≡ s = eqb-true t s y in rw z (getD-set-same names s f 0 (omega (arith, r .long)) ∙ q))
+            (λ y. let z = eqb-false t s y in getD-set-other names s t f 0 (λ u. z u) ∙ r .done t (omega arith));
+        still = λ t k. let z : t ≡ s → ⊥ = λ u. omega arith in getD-set-other names s t f 0 z ∙ r .still t (omega arith);
+        known = w;
+      }
+
+      abbrev Next : List ℕ → ℕ → Type 0
+      Next firsts′ d = Renamed (set names s (at firsts′ d)) firsts′ (s + 1)
+
+      -- s is the first of its group
+      pub renamed-new : (firsts′ : List ℕ) (d : ℕ) → d ≡ g → firsts′ ≡ set firsts d s → d < 256 → at firsts d ≡ 65535 → Next firsts′ d
+      renamed-new firsts′ d same = subst (λ (d : ℕ). firsts′ ≡ set firsts d s → d < 256 → at firsts d ≡ 65535 → Next firsts′ d) (sym same) go
+        where
+          go : firsts′ ≡ set firsts g s → g < 256 → at firsts g ≡ 65535 → Next firsts′ g
+          go u l z =
+              let alone = r .known g l .absent z in
+              let here : at firsts′ g ≡ s = ap (λ (k : List ℕ). at k g) u ∙ getD-set-same firsts g s 0 (omega (arith, r .wide)) in
+              rw here
+              (named s (renamed-here P c G s n s h e (and-intro (eq-eqb (at P s) c e) (eq-eqb g g refl)) (none-before s alone)) firsts′
+              (ap (λ (k : List ℕ). length k) u ∙ length-set firsts g s ∙ r .wide)
+              (λ d k. test (eqb d g)
+              (λ y. let same : d ≡ g = eqb-true d g y in rw (same, here) record {
+                absent = λ q. absurd (omega arith);
+                before = λ _. omega arith;
+                of = λ _. (e, refl);
+                least = λ _. alone;
+              })
+              (λ y. let z = eqb-false d g y in
+              let there : at firsts′ d ≡ at firsts d = ap (λ (k : List ℕ). at k d) u ∙ getD-set-other firsts g d s 0 (λ u. z u) in
+              rw there (other d (at firsts d) (r .known d k) z))))
+
+      -- its group has a first member already
+      pub renamed-again : (firsts′ : List ℕ) (d : ℕ) → d ≡ g → firsts′ ≡ firsts → d < 256 → (at firsts d ≡ 65535 → ⊥) → Next firsts′ d
+      renamed-again firsts′ d same = subst (λ (d : ℕ). firsts′ ≡ firsts → d < 256 → (at firsts d ≡ 65535 → ⊥) → Next firsts′ d) (sym same) go
+        where
+          go : firsts′ ≡ firsts → g < 256 → (at firsts g ≡ 65535 → ⊥) → Next firsts′ g
+          go u l z = rw u
+              (let w = r .known g l in
+              let o = w .of z in
+              let b = w .before z in
+              let f = at firsts g in
+              named f (renamed-here P c G s n f (omega arith) e (and-intro (eq-eqb (at P f) c (o .0)) (eq-eqb (at G f) g (o .1))) (none-before f (w .least z))) firsts (r .wide)
+              (λ d k. test (eqb d g)
+              (λ y. let same : d ≡ g = eqb-true d g y in rw same record {
+                absent = λ q. absurd (z q);
+                before = λ _. omega arith;
+                of = w .of;
+                least = w .least;
+              })
+              (λ y. other d (at firsts d) (r .known d k) (eqb-false d g y))))
+
+  -- a list's front, entry by entry
+  front-by : (k : ℕ) (f : ℕ → ℕ) (xs : List ℕ) → k ≤ length xs → ((t : ℕ) → t < k → at xs t ≡ f t) → take k xs ≡ tab k f
+  unfolding tab
+  front-by zero f xs l h = refl
+  front-by (suc k) f [] l h = absurd (omega arith)
+  front-by (suc k) f (x ∷ xs) l h = ap₂ _∷_ (h 0 (omega arith)) (front-by k (λ i. f (suc i)) xs (omega arith) (λ t m. h (suc t) (omega arith)))
+
+  pub renamed-all : (names firsts : List ℕ) (s : ℕ) → Renamed names firsts s → n ≤ s → n ≤ 256 → take n names ≡ tab n (renamed n P c G)
+  renamed-all names firsts s r h l = front-by n (renamed n P c G) names (omega (arith, r .long)) (λ t k. r .done t (omega arith))
 
 -- a round's names, from groups that stand at the front of a list
 pub rounded-by : (n : ℕ) (clashes : ℕ → ℕ → Bool) (P : List ℕ) (c : ℕ) (G : List ℕ) → take n G ≡ groups (λ s. eqb (at P s) c) clashes n

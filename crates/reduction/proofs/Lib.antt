@@ -1,5 +1,7 @@
 -- Laws that the proofs of the code use.
 pub mod Laws
+pub mod Labels
+pub mod Members
 pub mod Run
 pub mod Folding
 pub mod Calls

@@ -8,16 +8,17 @@ use native.Mathlib.Omega.{arith}
 use native.Mathlib.Numerals.{add-one}
 use lib.Dec.{eqb}
 use lib.ListN.{take}
-use borrow.Author.Tests.{le-ltb, lt-ltb}
+use borrow.Author.Tests.{le-ltb, lt-ltb, eqb-true, eqb-false}
 use Rattle.meaning.specs.Search.{least, tab, at}
-use Rattle.meaning.specs.SearchLaws.{least-cong, tab-cong, count-cong, at-take, any-cong}
+use Rattle.meaning.specs.SearchLaws.{least-ok, least-cong, tab-cong, count-cong, at-take, any-cong}
 use Rattle.meaning.specs.Classes.{Task, Classes, initial, parted, first, free, groups, split, round, chosen, begin, cut, run, reduction, named, classes}
-use Rattle.meaning.specs.Cases.{test}
+use Rattle.meaning.specs.Cases.{test, no-both}
 use Rattle.meaning.specs.ClassesLaws.{Named, groups-apart, name-own}
 use Rattle.meaning.specs.Reduced.{apart, conflict}
 use Rattle.meaning.specs.Reduction.{Fair, Kept, initial-good, cut-kept, classes-some, classes-max}
 use Rattle.table.specs.Table.{look}
-use Rattle.reduction.specs.Rounds.{twin, clash, rounded, taskOf}
+use Rattle.reduction.specs.Rounds.{Heads, twin, clash, rounded, taskOf}
+use Rattle.reduction.proofs.Members.{heads}
 
 -- ---- only the names of states count
 
@@ -135,6 +136,19 @@ module _ (table hues : List ℕ) (m n : ℕ) where
     -- the names are right
     pub running-named : (names : List ℕ) (rounds : ℕ) → Running names rounds → Named n (take n names)
     running-named names rounds r = r .kept .good .right
+
+    -- each state is in a class
+    pub running-all : (names : List ℕ) (rounds : ℕ) → Running names rounds → (s : ℕ) → s < n → at names s < n
+    running-all names rounds r s h = let low = r .kept .good .all s h refl in omega (arith, low, at-take names n s h)
+
+    -- the class that is taken is headed by its name
+    pub running-heads : (names : List ℕ) (rounds c : ℕ) → Running names rounds → c ≡ first n (clash table m names) names → c < n → Heads names n c
+    unfolding first
+    running-heads names rounds c r e l =
+        let right = running-named names rounds r in
+        let clashes = clash table m names in
+        let hit : parted n clashes names c ≡ true = rw e (least-ok (parted n clashes names) n (omega (arith, e))) in
+        heads n names right c l (test (eqb (at names c) c) (λ q. eqb-true _ _ q) (λ q. no-both hit (parted-own n clashes names right c l (eqb-false _ _ q))))
 
     pub running-on : (names next : List ℕ) (rounds more c : ℕ) → Running names rounds → c ≡ first n (clash table m names) names → c < n
         → take n next ≡ rounded n (clash table m names) names c → more ≡ rounds + 1 → Running next more

@@ -1,13 +1,15 @@
 -- The words of a round as the code has them: edges looked up in the table, class names and groups in lists that may be longer than
 -- n. Assumes nothing.
-use Prim.Native.Nat.{ℕ}
+use Prim.Native.Nat.{ℕ, zero, suc, _+_, _*_, _/_, _%_, _^_, _≤_, _<_}
+use mathlib.Core.Path.{_≡_}
 use mathlib.Core.Bool.{Bool, true, false, not, _&&_}
 use mathlib.Core.List.{List}
 use lib.Dec.{eqb, ltb}
+use lib.ListN.{length}
 use Rattle.meaning.specs.Pick.{pick}
-use Rattle.meaning.specs.Search.{any, least, at}
+use Rattle.meaning.specs.Search.{any, least, bit, at}
 use Rattle.meaning.specs.Classes.{Task, groups, split}
-use Rattle.meaning.specs.Reduced.{conflict, taskOver}
+use Rattle.meaning.specs.Reduced.{has, conflict, taskOver}
 use Rattle.table.specs.Table.{look}
 use Rattle.reduction.specs.declared.rounds.Found.{Found}
 use Rattle.reduction.specs.declared.rounds.Found.the-variants.{Pair, Nothing}
@@ -15,6 +17,29 @@ use Rattle.reduction.specs.declared.rounds.Found.the-variants.{Pair, Not
 -- The smallest state below n of the colour of s.
 unfoldable pub twin : List ℕ → ℕ → ℕ → ℕ
 twin hues n s = least (λ t. eqb (at hues t) (at hues s)) n
+
+-- The numbers below m that pass, as a number: a bit each.
+unfoldable pub mask : (ℕ → Bool) → ℕ → ℕ
+mask p zero = 0
+mask p (suc m) = mask p m + bit (p m) * 2 ^ m
+
+-- Each label below m that a state below n has is in the state's set.
+abbrev pub Labelled : List ℕ → List ℕ → ℕ → ℕ → Type 0
+Labelled table labels m n = (s y : ℕ) → s < n → y < m → has (look table s y) ≡ true → at labels s / 2 ^ y % 2 ≡ 1
+
+-- Of each state below n the next one behind it with the same name; n where there is none.
+pub record Linked (P : List ℕ) (n : ℕ) (next : List ℕ) : Type 0 where
+  pub long : length next ≡ 256
+  pub behind : (s : ℕ) → s < n → s < at next s
+  pub inside : (s : ℕ) → s < n → at next s ≤ n
+  pub same : (s : ℕ) → s < n → at next s < n → at P (at next s) ≡ at P s
+  pub between : (s t : ℕ) → s < n → s < t → t < at next s → at P t ≡ at P s → ⊥
+
+-- c is the smallest state with name c.
+pub record Heads (P : List ℕ) (n c : ℕ) : Type 0 where
+  pub inside : c < n
+  pub member : at P c ≡ c
+  pub before : (s : ℕ) → s < c → at P s ≡ c → ⊥
 
 -- Two states conflict.
 abbrev pub clash : List ℕ → ℕ → List ℕ → ℕ → ℕ → Bool

@@ -3,22 +3,23 @@ use Prim.Native.Nat.{_≤_, _-_}
 use native.Mathlib.Omega.{arith}
 use mathlib.Core.Path.{sym, _∙_}
 use mathlib.Core.Logic.{⊎-elim}
-use borrow.Author.Needs.{needs}
 use denote.Ref.{now}
 use Rattle.meaning.specs.Search.{least}
 use Rattle.meaning.specs.SearchLaws.{least-next, least-here, least-gone}
 use Rattle.meaning.specs.Classes.{parted}
 use Rattle.reduction.specs.Rounds.{clash}
 use Rattle.reduction.proofs.Laws.{parted-none, parted-pair, first-least}
+use Rattle.reduction.proofs.Members.{heads}
 use Rattle.reduction.proofs.Run.{parted-own}
+use borrow.Author.Needs.{needs}
 use Rattle.reduction.proofs.rounds.Partition.first_parted.Statement.{statement}
 use Rattle.reduction.proofs.rounds.Partition.first_parted.Tie as tie
 
 abbrev Inv-loop : tie.InvT-loop
-Inv-loop self table m n names c₀ c = (c ≤ n) × (c ≤ least (parted n (clash table m (self .names)) (self .names)) n)
+Inv-loop table labels next m n names c₀ c = (c ≤ n) × (c ≤ least (parted n (clash table m names) names) n)
 
 abbrev μ-loop : tie.MeasureT-loop
-μ-loop self table m n names c₀ c = n - c
+μ-loop table labels next m n names c₀ c = n - c
 
 loop-holds : tie.Need-loop-holds Inv-loop μ-loop
 loop-holds c = (omega arith, omega arith)
@@ -32,19 +33,16 @@ array-read-if1 c = omega arith
 cast-if1 : tie.Need-cast-if1 Inv-loop μ-loop
 cast-if1 c = omega arith
 
-cast-pair-in : tie.Need-cast-pair-in Inv-loop μ-loop
-cast-pair-in c = search needs
-
 pair-in-requires : tie.Need-pair-in-requires Inv-loop μ-loop
-pair-in-requires c κs = search needs
+pair-in-requires c κs = let pre = c .before .before .before .before .before .pre in
+    (omega (arith, pre .0), pre .1, search needs, pre .3, pre .4, pre .5, heads _ _ (pre .2) _ (omega arith) (c .before .if1 .taken))
 
 enum-told : tie.Need-enum-told Inv-loop μ-loop
 enum-told c = search needs
 
 returns : tie.Need-returns Inv-loop μ-loop
-returns c =
-    first-least _ _ _ _
-    (least-here _ _ _ (c .before .before .before .before .before .loop .inv .1) (parted-pair _ _ _ _ _ _ (sym (c .enum-told .given .1) ∙ c .before .before .pair-in .ensures)))
+returns c = first-least _ _ _ _
+    (least-here _ _ _ (c .before .before .before .before .before .before .loop .inv .1) (parted-pair _ _ _ _ _ _ (sym (c .enum-told .given .1) ∙ c .before .before .pair-in .ensures)))
 
 enum-told-2 : tie.Need-enum-told-2 Inv-loop μ-loop
 enum-told-2 c = search needs
@@ -56,8 +54,7 @@ loop-less : tie.Need-loop-less Inv-loop μ-loop
 loop-less c = search needs
 
 loop-again : tie.Need-loop-again Inv-loop μ-loop
-loop-again c =
-    let loop = c .before .before .loop in
+loop-again c = let loop = c .before .before .loop in
     let start = c .before .before .before .before in
     let a = start .args in
     let names = a .self .names in
@@ -65,7 +62,7 @@ loop-again c =
       omega arith,
       least-next _ _ _ (loop .inv .1) (omega arith)
           (⊎-elim
-          (λ v. parted-none _ _ _ _ (sym (v .3 .given .1) ∙ v .1 .ensures))
+          (λ v. parted-none _ _ _ _ (sym (v .4 .given .1) ∙ v .2 .ensures))
           (λ v. parted-own (a .n) clashes names (start .pre .2) (loop .c) (omega arith) (v .left))
           (c .if1 .came)),
     )
@@ -83,7 +80,6 @@ first-parted-spec =
     mul-if1
     array-read-if1
     cast-if1
-    cast-pair-in
     pair-in-requires
     enum-told
     returns
