@@ -26,7 +26,7 @@ use Rattle.file.proofs.Files.{length-filter, read-writable}
 use Rattle.file.proofs.Calls.{ReadIs}
 use Rattle.table.specs.Table.{look}
 use Rattle.reduction.specs.Reducing.{countsOf}
-use Rattle.reduction.specs.Rounds.{taskOf}
+use Rattle.rounds.specs.Rounds.{taskOf}
 use Rattle.merging.specs.Merged.{Whole, Within, mergedBy, Foldable}
 use Rattle.reduction.proofs.Accepted.{reduced-writable, file-shorter}
 

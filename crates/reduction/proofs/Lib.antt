@@ -1,8 +1,4 @@
 -- Laws that the proofs of the code use.
-pub mod Laws
-pub mod Labels
-pub mod Members
-pub mod Run
 pub mod Folding
 pub mod Calls
 -- Theorems: what is written is accepted and not longer; the contract has one outcome.

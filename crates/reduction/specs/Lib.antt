@@ -2,5 +2,3 @@
 pub mod Answers
 pub mod Reducing
 pub mod Promise
--- What its parts are, in the words of the code.
-pub mod Rounds

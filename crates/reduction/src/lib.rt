@@ -1,6 +1,4 @@
 // Reducing a filter file.
-mod rounds; // classes split round by round
-
 use file::Checked;
 use file::Kind;
 use file::Reading;

@@ -1,0 +1,77 @@
+-- `rounds::Partition::classes` meets its contract. Assumes nothing.
+use mathlib.Core.Path.{_≡_, refl, sym, ap, _∙_}
+use mathlib.Core.Logic.{⊎-elim}
+use Prim.Native.Nat.{ℕ, _+_, _-_, _≤_}
+use native.Mathlib.Nat.{le-antisymm}
+use native.Mathlib.Omega.{arith}
+use borrow.Author.Needs.{needs}
+use borrow.Author.Tests.{eq-eqb, ne-eqb}
+use Rattle.meaning.specs.SearchLaws.{count-hit, count-miss}
+use Rattle.meaning.specs.Search.{count}
+use Rattle.meaning.specs.Classes.{named, classes}
+use Rattle.rounds.proofs.Partition.classes.Statement.{statement}
+use Rattle.rounds.proofs.Partition.classes.Tie as tie
+
+abbrev Inv-loop : tie.InvT-loop
+Inv-loop n names k₀ s₀ k s = (s ≤ n) × (k ≡ count (named names) s) × (k ≤ s)
+
+abbrev μ-loop : tie.MeasureT-loop
+μ-loop n names k₀ s₀ k s = n - s
+
+loop-holds : tie.Need-loop-holds Inv-loop μ-loop
+unfolding count
+loop-holds c = (omega arith, refl, omega arith)
+
+mul-if1 : tie.Need-mul-if1 Inv-loop μ-loop
+mul-if1 c = omega arith
+
+array-read-if1 : tie.Need-array-read-if1 Inv-loop μ-loop
+array-read-if1 c = omega arith
+
+cast-if1 : tie.Need-cast-if1 Inv-loop μ-loop
+cast-if1 c = omega arith
+
+add-k : tie.Need-add-k Inv-loop μ-loop
+add-k c = omega arith
+
+add-s : tie.Need-add-s Inv-loop μ-loop
+add-s c = omega arith
+
+loop-less : tie.Need-loop-less Inv-loop μ-loop
+loop-less c = omega arith
+
+loop-again : tie.Need-loop-again Inv-loop μ-loop
+loop-again c =
+    let loop = c .before .before .loop in
+    let names = c .before .before .before .before .args .self .names in (
+      omega arith,
+      ⊎-elim
+          (λ w. w .1 ∙ ap (λ (k : ℕ). k + 1) (loop .inv .1) ∙ sym (count-hit (named names) (loop .s) (eq-eqb _ _ (w .0 .taken))))
+          (λ w. w .1 ∙ loop .inv .1 ∙ sym (count-miss (named names) (loop .s) (ne-eqb _ _ (w .0 .left))))
+          (c .if1 .came),
+      ⊎-elim (λ w. omega (arith, w .1)) (λ w. omega (arith, w .1)) (c .if1 .came),
+    )
+
+returns : tie.Need-returns Inv-loop μ-loop
+unfolding classes
+returns c =
+    let loop = c .before .loop in
+    let a = c .before .before .before .args in
+    let all : loop .s ≡ a .n = le-antisymm (loop .inv .0) (c .loop-test .left) in
+    (loop .inv .1 ∙ ap (count (named (a .self .names))) all, omega arith)
+
+pub classes-spec : {M : Type 1} → statement M
+classes-spec =
+    tie.close
+    (tie.spec
+    Inv-loop
+    μ-loop
+    loop-holds
+    mul-if1
+    array-read-if1
+    cast-if1
+    add-k
+    add-s
+    loop-less
+    loop-again
+    returns)
