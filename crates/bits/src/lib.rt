@@ -128,11 +128,11 @@ pub fn put_run(s: &mut [u8], at: usize, width: usize, values: &[u8])
     requires { ⌜ (width ≤ 8) × (at + length (now values) * width < 2 ^ 64) × ((i : ℕ) → getD (now values) i 0 < 2 ^ width) ⌝ }
     ensures { λ _. ⌜ now (s .exit) ≡ putFields (now (s .entry)) at (replicate (length (now (values .entry))) width) (now (values .entry)) ⌝ }
 {
+    let mut pen = pen::begin(s, at);
     let mut i = 0;
-    let mut p = at;
     while i < values.len() {
-        put(s, p, width, wide(values[i]));
-        p += width;
+        pen = pen::push(s, pen, width, wide(values[i]));
         i += 1;
     }
+    pen::finish(s, pen);
 }
