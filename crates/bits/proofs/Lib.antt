@@ -3,3 +3,4 @@ pub mod Writing
 pub mod Parts
 pub mod Runs
 pub mod Cover
+pub mod Pens

@@ -121,19 +121,15 @@ put-split s at i (suc w) v =
     let c : v % 2 ≡ v % 2 ^ suc w % 2 = sym (mod-mod-pow v w 1) ∙ ap (λ (n : ℕ). v % 2 ^ n % 2) (add-one w) in
     rw (add-suc i w, put-split s at i w (v / 2), add-assoc at i w, a, b, ← c)
 
+-- two neighbouring fields as one
+pub put-two : (s : List ℕ) (at a b x y : ℕ) → y < 2 ^ b → putField s at (a + b) (x * 2 ^ b + y) ≡ putField (putField s at a x) (at + a) b y
+put-two s at a b x y h = rw (put-split s at a b (x * 2 ^ b + y), high x b h, low x b h)
+
 -- three neighbouring fields as one
 pub put-three : (s : List ℕ) (at a b c x y z : ℕ) → x < 2 ^ a → y < 2 ^ b → z < 2 ^ c →
     putField s at (a + b + c) ((x * 2 ^ b + y) * 2 ^ c + z) ≡ putField (putField (putField s at a x) (at + a) b y) (at + a + b) c z
 put-three s at a b c x y z _ hy hz =
-    rw (
-      put-split s at (a + b) c ((x * 2 ^ b + y) * 2 ^ c + z),
-      high (x * 2 ^ b + y) c hz,
-      low (x * 2 ^ b + y) c hz,
-      put-split s at a b (x * 2 ^ b + y),
-      high x b hy,
-      low x b hy,
-      add-assoc at a b,
-    )
+    rw (put-two s at (a + b) c (x * 2 ^ b + y) z hz, put-two s at a b x y hy, add-assoc at a b)
 
 -- ---- one bit
 

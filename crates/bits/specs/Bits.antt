@@ -3,6 +3,7 @@
 use Prim.Native.Nat.{ℕ, zero, suc, _+_, _*_, _-_, _/_, _%_, _^_, _<_}
 use mathlib.Core.List.{List, [], _∷_}
 use lib.ListN.{getD, set}
+use Rattle.bits.specs.declared.pen.Pen.{Pen}
 
 -- each entry is a byte
 abbrev pub Bytes : List ℕ → Type 0
@@ -52,3 +53,17 @@ Fit [] [] = Unit {0}
 Fit [] (v ∷ vs) = ⊥
 Fit (w ∷ ws) [] = ⊥
 Fit (w ∷ ws) (v ∷ vs) = (v < 2 ^ w) × Fit ws vs
+
+-- the list once the bits that a pen holds are stored
+unfoldable pub inked : List ℕ → Pen → List ℕ
+inked s pen = putField s (pen .at * 8) (pen .bits) (pen .held)
+
+-- the bit behind those that a pen holds, where the next field begins
+abbrev pub placeOf : Pen → ℕ
+placeOf pen = pen .at * 8 + pen .bits
+
+-- a pen that can go on: what it holds is fewer bits than are stored at once, and the next bit has a number
+pub record Ready (pen : Pen) : Type 0 where
+  pub few : pen .bits < 32
+  pub fit : pen .held < 2 ^ pen .bits
+  pub near : placeOf pen < 2 ^ 64

@@ -1,6 +1,8 @@
 // Fields of bits in a slice of bytes, most significant bit first.
+pub mod pen; // fields written one behind another
+
 ghost use mathlib.Core.Path.{_≡_};
-ghost use Prim.Native.Nat.{ℕ, _+_, _*_, _^_, _≤_, _<_};
+ghost use Prim.Native.Nat.{ℕ, _+_, _*_, _%_, _^_, _≤_, _<_};
 ghost use lib.ListN.{length, getD, set, drop, replicate};
 ghost use mathlib.Core.List.{_++_};
 ghost use Rattle.bits.specs.Bits.{field, putField, splice, fields, putFields};
@@ -98,7 +100,7 @@ fn set_window(s: &mut [u8], q: usize, y: u64)
 
 // Writes value to the `width` bits from bit `at` on; all other bits stay.
 pub fn put(s: &mut [u8], at: usize, width: usize, value: u64)
-    requires { ⌜ (width ≤ 24) × (value < 2 ^ width) ⌝ }
+    requires { ⌜ (at % 8 + width ≤ 32) × (value < 2 ^ width) ⌝ }
     ensures { λ _. ⌜ now (s .exit) ≡ putField (now (s .entry)) at width value ⌝ }
 {
     let q = at / 8;
@@ -126,11 +128,11 @@ pub fn put_run(s: &mut [u8], at: usize, width: usize, values: &[u8])
     requires { ⌜ (width ≤ 8) × (at + length (now values) * width < 2 ^ 64) × ((i : ℕ) → getD (now values) i 0 < 2 ^ width) ⌝ }
     ensures { λ _. ⌜ now (s .exit) ≡ putFields (now (s .entry)) at (replicate (length (now (values .entry))) width) (now (values .entry)) ⌝ }
 {
+    let mut pen = pen::begin(s, at);
     let mut i = 0;
-    let mut p = at;
     while i < values.len() {
-        put(s, p, width, wide(values[i]));
-        p += width;
+        pen = pen::push(s, pen, width, wide(values[i]));
         i += 1;
     }
+    pen::finish(s, pen);
 }

@@ -4,15 +4,16 @@ use mathlib.Core.Path.{_≡_, refl, sym, ap, _∙_}
 use mathlib.Core.List.{List, [], _∷_, _++_, append-assoc}
 use mathlib.Core.Option.{Option, none, some}
 use Prim.Native.Nat.{ℕ, zero, suc, _+_, _*_, _-_, _/_, _%_, _^_, _≤_, _<_}
-use native.Mathlib.Nat.{add-assoc, add-zero, mul-zero, mul-suc, suc-mul, suc-add, zero-add, mul-le-mul-right, mod-eq-of-lt}
+use native.Mathlib.Nat.{add-assoc, add-zero, mul-zero, mul-suc, suc-add, zero-add, mod-eq-of-lt}
 use native.Mathlib.Numerals.{add-one}
 use native.Mathlib.Omega.{arith}
 use lib.ListN.{length, getD, set, take, drop, length-append, length-drop}
-use lib.Pow.{high, low, pow-add, pow-mono}
+use lib.Pow.{high, low, pow-mono}
 use lib.Seq.{drop-cons, take-add, length-take-le}
 use Rattle.bits.specs.Bits.{field, putField, fields, putFields, total, Fit}
 use Rattle.bits.proofs.Reading.{field-lt, field-split, field-within}
 use Rattle.bits.proofs.Writing.{put-three}
+use Rattle.bits.proofs.Pens.{append-lt}
 use Rattle.bits.proofs.Runs.{puts-append, store-more}
 use Rattle.meaning.specs.Filter.{Edge}
 use Rattle.file.specs.declared.Profile.{Profile}
@@ -174,12 +175,6 @@ parts s at a b =
       third = rw (field-split s at (a + b) a, ← add-assoc at a b) (low (field s at (a + b)) a (field-lt s (at + a + b) a));
     }
 
--- digits behind digits
-append-lt : (a b x y : ℕ) → x < 2 ^ a → y < 2 ^ b → x * 2 ^ b + y < 2 ^ (a + b)
-append-lt a b x y h l =
-    let k : suc x * 2 ^ b ≤ 2 ^ a * 2 ^ b = mul-le-mul-right (2 ^ b) h in
-    rw (pow-add 2 a b) (omega (arith, suc-mul x (2 ^ b)))
-
 -- three parts joined to a field, within a machine's 64 bits
 pub record Joined (a b x y z : ℕ) : Type 0 where
   pub upper-shift : x * 2 ^ b % 2 ^ 64 ≡ x * 2 ^ b
@@ -231,8 +226,8 @@ take-three vs o h = rw (take-add o 3 vs, drop-three vs o h)
 
 -- an edge's three parts joined to one field
 pub put-joined : (P : Profile) (s : List ℕ) (at : ℕ) (e : Edge) → e .source < 2 ^ P .states → e .label < 2 ^ P .labels → e .target < 2 ^ P .states →
-    putField s at (P .states + P .labels + P .states) ((e .source * 2 ^ P .labels + e .label) * 2 ^ P .states + e .target) ≡ putEdges P s at (e ∷ [])
-unfolding edgeWidths flat putFields
+    putField s at (edgeBits P) ((e .source * 2 ^ P .labels + e .label) * 2 ^ P .states + e .target) ≡ putEdges P s at (e ∷ [])
+unfolding edgeBits edgeWidths flat putFields
 put-joined P s at e hs hl ht = put-three s at (P .states) (P .labels) (P .states) (e .source) (e .label) (e .target) hs hl ht
 
 widths-append : (P : Profile) (i k : ℕ) → edgeWidths P (i + k) ≡ edgeWidths P i ++ edgeWidths P k

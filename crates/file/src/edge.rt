@@ -1,9 +1,12 @@
 // One edge, read from a file or written to one.
 use crate::Profile;
+use bits::pen;
+use bits::pen::Pen;
 ghost use mathlib.Core.Path.{_≡_};
 ghost use mathlib.Core.List.{_∷_, []};
 ghost use Prim.Native.Nat.{_+_, _*_, _<_, _^_};
-ghost use Rattle.file.specs.Layout.{putEdges};
+ghost use Rattle.bits.specs.Bits.{inked, placeOf, Ready};
+ghost use Rattle.file.specs.Layout.{edgeBits, putEdges};
 ghost use Rattle.file.specs.Contents.{edgeAt};
 ghost use Rattle.file.specs.Code.{edgeOf, Usable};
 
@@ -28,12 +31,12 @@ pub fn read(p: Profile, file: &[u8], at: usize) -> Edge
     }
 }
 
-// Writes an edge as one field from bit `at` on; all other bits stay.
-pub fn put(p: Profile, room: &mut [u8], at: usize, edge: Edge)
-    requires { ⌜ Usable p × (edge .source < 2 ^ p .states) × (edge .label < 2 ^ p .labels) × (edge .target < 2 ^ p .states) ⌝ }
-    ensures { λ _. ⌜ now (room .exit) ≡ putEdges p (now (room .entry)) at (edgeOf edge ∷ []) ⌝ }
+// Writes an edge as one field behind what the pen holds.
+pub fn push(p: Profile, room: &mut [u8], pen: Pen, edge: Edge) -> Pen
+    requires { ⌜ Usable p × Ready pen × (placeOf pen < 2 ^ 63) × (edge .source < 2 ^ p .states) × (edge .label < 2 ^ p .labels) × (edge .target < 2 ^ p .states) ⌝ }
+    ensures { λ r. ⌜ (inked (now (room .exit)) r ≡ putEdges p (inked (now (room .entry)) pen) (placeOf pen) (edgeOf edge ∷ [])) × (placeOf r ≡ placeOf pen + edgeBits p) × Ready r ⌝ }
 {
-    bits::put(room, at, p.states + p.labels + p.states, joined(p, edge));
+    pen::push(room, pen, crate::layout::edge_bits(p), joined(p, edge))
 }
 
 // An edge as the number that its field holds.

@@ -3,6 +3,7 @@ use crate::Kind;
 use crate::Profile;
 use crate::Refusal;
 use crate::edge::Edge;
+use bits::pen;
 ghost use mathlib.Core.Path.{_≡_};
 ghost use mathlib.Core.List.{_++_};
 ghost use mathlib.Core.Option.{none};
@@ -164,12 +165,11 @@ fn put_all(p: Profile, part: &mut [u8], bit: usize, edges: &[u8], e: usize)
     requires { ⌜ Usable p × (bit ≤ 7) × (e ≤ 65536) × Fit (edgeWidths p e) (now edges) ⌝ }
     ensures { λ _. ⌜ now (part .exit) ≡ putFields (now (part .entry)) bit (edgeWidths p e) (now (edges .entry)) ⌝ }
 {
-    let width = crate::layout::edge_bits(p);
-    let mut place = bit;
+    let mut pen = pen::begin(part, bit);
     let mut i = 0;
     while i < e {
-        crate::edge::put(p, part, place, listed(edges, i));
-        place += width;
+        pen = crate::edge::push(p, part, pen, listed(edges, i));
         i += 1;
     }
+    pen::finish(part, pen);
 }

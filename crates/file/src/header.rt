@@ -1,10 +1,12 @@
 // The four numbers before the colours.
 use crate::Profile;
 use crate::Reading;
+use bits::pen;
+use bits::pen::Pen;
 ghost use mathlib.Core.Path.{_≡_};
 ghost use mathlib.Core.List.{_∷_, []};
-ghost use Prim.Native.Nat.{_-_, _≤_};
-ghost use Rattle.bits.specs.Bits.{putFields, Fit};
+ghost use Prim.Native.Nat.{_+_, _-_, _≤_};
+ghost use Rattle.bits.specs.Bits.{putFields, Fit, inked, placeOf, Ready};
 ghost use Rattle.file.specs.Code.{Usable};
 ghost use Rattle.file.specs.Contents.{statesIn, labelsIn, startIn, countIn};
 
@@ -25,9 +27,18 @@ pub fn put(p: Profile, room: &mut [u8], n: usize, m: usize, start: usize, e: usi
     requires { ⌜ Usable p × Fit (p .states ∷ p .labels ∷ p .start ∷ p .edges ∷ []) ((n - 1) ∷ (m - 1) ∷ start ∷ e ∷ []) × (1 ≤ n) × (1 ≤ m) ⌝ }
     ensures { λ _. ⌜ now (room .exit) ≡ putFields (now (room .entry)) 0 (p .states ∷ p .labels ∷ p .start ∷ p .edges ∷ []) ((n - 1) ∷ (m - 1) ∷ start ∷ e ∷ []) ⌝ }
 {
-    let at_start = p.states + p.labels;
-    bits::put(room, 0, p.states, (n - 1) as u64);
-    bits::put(room, p.states, p.labels, (m - 1) as u64);
-    bits::put(room, at_start, p.start, start as u64);
-    bits::put(room, at_start + p.start, p.edges, e as u64);
+    let sizes = push_sizes(p, room, n, m);
+    let begun = pen::push(room, sizes, p.start, start as u64);
+    let whole = pen::push(room, begun, p.edges, e as u64);
+    pen::finish(room, whole);
+}
+
+// The first two of the four, n and m.
+fn push_sizes(p: Profile, room: &mut [u8], n: usize, m: usize) -> Pen
+    requires { ⌜ Usable p × Fit (p .states ∷ p .labels ∷ []) ((n - 1) ∷ (m - 1) ∷ []) × (1 ≤ n) × (1 ≤ m) ⌝ }
+    ensures { λ r. ⌜ (inked (now (room .exit)) r ≡ putFields (now (room .entry)) 0 (p .states ∷ p .labels ∷ []) ((n - 1) ∷ (m - 1) ∷ [])) × (placeOf r ≡ p .states + p .labels) × Ready r ⌝ }
+{
+    let first = pen::begin(room, 0);
+    let begun = pen::push(room, first, p.states, (n - 1) as u64);
+    pen::push(room, begun, p.labels, (m - 1) as u64)
 }

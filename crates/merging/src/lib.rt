@@ -1,4 +1,6 @@
 // The filter of classes: numbered, its edges gathered in the table, and written as a file.
+use bits::pen;
+use bits::pen::Pen;
 use file::Profile;
 use file::Reading;
 use file::edge::Edge;
@@ -13,6 +15,7 @@ ghost use Rattle.meaning.specs.Search.{least, count, tab, at};
 ghost use Rattle.meaning.specs.Classes.{classes, number};
 ghost use Rattle.meaning.specs.Reduced.{nameOf, has, row, listed};
 ghost use Rattle.meaning.specs.Listing.{cells};
+ghost use Rattle.bits.specs.Bits.{inked, placeOf, Ready};
 ghost use Rattle.file.specs.Layout.{large, edgeBits, putEdges, lengthOf, written};
 ghost use Rattle.file.specs.Answers.{accepted};
 ghost use Rattle.file.specs.Refusals.{laid, writeOf};
@@ -134,23 +137,22 @@ fn edge_count(table: &[u16; 16384], order: Order, m: usize) -> usize
     e
 }
 
-// Writes the edges of state s as those of class k from a bit on, labels ascending, and answers the bit behind them.
+// Writes the edges of state s as those of class k behind what the pen holds, labels ascending.
 fn put_row(
     p: Profile,
     part: &mut [u8],
-    bit: usize,
+    begun: Pen,
     table: &[u16; 16384],
     s: usize,
     k: usize,
     m: usize,
     list: &[u16],
-) -> usize
-    requires { ⌜ Usable p × (bit ≤ 2 ^ 32) × (s < 256) × (k < 2 ^ p .states) × (m ≤ 64) × (m ≤ 2 ^ p .labels) × Listed (now table) (now list) (2 ^ p .states) ⌝ }
-    ensures edges { λ r. ⌜ now (part .exit) ≡ putEdges p (now (part .entry)) bit (row (λ y. led (now (list .entry)) (look (now (table .entry)) s y)) k m) ⌝ }
-    ensures behind { λ r. ⌜ (r ≡ bit + edgeBits p * length (row (λ y. led (now (list .entry)) (look (now (table .entry)) s y)) k m)) × (r ≤ bit + 24 * m) ⌝ }
+) -> Pen
+    requires { ⌜ Usable p × Ready begun × (placeOf begun ≤ 2 ^ 32) × (s < 256) × (k < 2 ^ p .states) × (m ≤ 64) × (m ≤ 2 ^ p .labels) × Listed (now table) (now list) (2 ^ p .states) ⌝ }
+    ensures edges { λ r. ⌜ inked (now (part .exit)) r ≡ putEdges p (inked (now (part .entry)) begun) (placeOf begun) (row (λ y. led (now (list .entry)) (look (now (table .entry)) s y)) k m) ⌝ }
+    ensures behind { λ r. ⌜ (placeOf r ≡ placeOf begun + edgeBits p * length (row (λ y. led (now (list .entry)) (look (now (table .entry)) s y)) k m)) × (placeOf r ≤ placeOf begun + 24 * m) × Ready r ⌝ }
 {
-    let width = layout::edge_bits(p);
-    let mut place = bit;
+    let mut pen = begun;
     let mut y = 0;
     while y < m {
         let to = table::entry(table, s, y);
@@ -160,12 +162,11 @@ fn put_row(
                 label: y,
                 target: wide(list[to]),
             };
-            file::edge::put(p, part, place, edge);
-            place += width;
+            pen = file::edge::push(p, part, pen, edge);
         }
         y += 1;
     }
-    place
+    pen
 }
 
 // Writes the edges of all classes from a bit on, in file order.
@@ -183,12 +184,13 @@ fn put_rows(
 {
     let count = order.count;
     let names = order.names;
-    let mut place = bit;
+    let mut pen = pen::begin(part, bit);
     let mut k = 0;
     while k < count {
-        place = put_row(p, part, place, table, wide(names[k]), k, m, list);
+        pen = put_row(p, part, pen, table, wide(names[k]), k, m, list);
         k += 1;
     }
+    pen::finish(part, pen);
 }
 
 // The edges stand behind the colours, from a bit on: the room's later part is lent on, with the starting bit inside its first byte.

@@ -6,39 +6,40 @@ use Rattle.bits.specs.Bits.{putFields, Fit}
 use Rattle.file.proofs.header.put.Statement.{statement}
 use Rattle.file.proofs.header.put.Tie as tie
 
-add-at-start : tie.Need-add-at-start
-add-at-start c = search needs
-
-sub-put : tie.Need-sub-put
-sub-put c = search needs
-
-put-requires : tie.Need-put-requires
+push-sizes-requires : tie.Need-push-sizes-requires
 unfolding Fit
-put-requires c κs = let start = c .before .before .before in (omega (arith, start .pre .0 .states≤), start .pre .1 .0)
+push-sizes-requires c κs =
+    let pre = c .before .before .pre in
+    (pre .0, (pre .1 .0, (pre .1 .1 .0, tt)), pre .2, pre .3)
 
-sub-put-2 : tie.Need-sub-put-2
-sub-put-2 c = search needs
-
-put-requires-2 : tie.Need-put-requires-2
+push-requires : tie.Need-push-requires
 unfolding Fit
-put-requires-2 c κs =
-    let start = c .before .before .before .before .before .before .before in
-    (omega (arith, start .pre .0 .labels≤), start .pre .1 .1 .0)
+push-requires c κs =
+    let sizes = c .before .before .before in
+    let is = sizes .push-sizes .ensures in
+    let pre = sizes .before .before .before .pre in (
+      is .2,
+      omega (arith, pre .0 .start≤),
+      pre .1 .1 .1 .0,
+      omega (arith, is .1, pre .0 .states≤, pre .0 .labels≤, pre .0 .start≤),
+    )
 
-put-requires-3 : tie.Need-put-requires-3
+push-requires-2 : tie.Need-push-requires-2
 unfolding Fit
-put-requires-3 c κs =
-    let start = c .before .before .before .before .before .before .before .before .before .before .before in
-    (omega (arith, start .pre .0 .start≤), start .pre .1 .1 .1 .0)
+push-requires-2 c κs =
+    let push = c .before .before .before in
+    let sizes = push .before .before .before .before in
+    let begun = push .push .ensures in
+    let is = sizes .push-sizes .ensures in
+    let pre = sizes .before .before .before .pre in (
+      begun .2,
+      omega (arith, pre .0 .edges≤),
+      pre .1 .1 .1 .1 .0,
+      omega (arith, begun .1, is .1, pre .0 .states≤, pre .0 .labels≤, pre .0 .start≤, pre .0 .edges≤),
+    )
 
-add-put : tie.Need-add-put
-add-put c = search needs
-
-put-requires-4 : tie.Need-put-requires-4
-unfolding Fit
-put-requires-4 c κs =
-    let start = c .before .before .before .before .before .before .before .before .before .before .before .before .before .before .before .before in
-    (omega (arith, start .pre .0 .edges≤), start .pre .1 .1 .1 .1 .0)
+finish-requires : tie.Need-finish-requires
+finish-requires c κs = c .before .before .before .push2 .ensures .2
 
 same-length : tie.Need-same-length
 same-length c = search needs
@@ -46,23 +47,22 @@ same-length c = search needs
 returns : tie.Need-returns
 unfolding putFields
 returns c =
-    let put4 = c .before .before in
-    let put3 = put4 .before .before .before .before .before in
-    let put2 = put3 .before .before .before .before in
-    let put1 = put2 .before .before .before .before in
-    rw (put4 .put4 .ensures, put3 .put3 .ensures, put2 .put2 .ensures, put1 .put .ensures, zero-add (put1 .before .before .before .before .args .p .states))
+    let done = c .before .before in
+    let push2 = done .before .before .before .before in
+    let push1 = push2 .before .before .before .before in
+    let sizes = push1 .before .before .before .before in
+    let whole = push2 .push2 .ensures in
+    let begun = push1 .push .ensures in
+    let is = sizes .push-sizes .ensures in
+    rw (done .finish .ensures, whole .0, begun .0, begun .1, is .0, is .1, zero-add (sizes .before .before .before .args .p .states))
 
 pub put-spec : {M : Type 1} → statement M
 put-spec =
     tie.close
     (tie.spec
-    add-at-start
-    sub-put
-    put-requires
-    sub-put-2
-    put-requires-2
-    put-requires-3
-    add-put
-    put-requires-4
+    push-sizes-requires
+    push-requires
+    push-requires-2
+    finish-requires
     same-length
     returns)
