@@ -28,7 +28,7 @@ fn faulty(kind: Kind, place: usize) -> Verdict
 }
 
 // The one test of an edge with index i, behind the edge before it; the first edge has none before it.
-fn test(n: usize, m: usize, i: usize, before: Edge, edge: Edge) -> Verdict
+pub fn test(n: usize, m: usize, i: usize, before: Edge, edge: Edge) -> Verdict
     ensures { λ r. ⌜ faultOf r ≡ faultAt i (edgeFault n m (edgeBefore (eqb i 0) before) (edgeOf edge)) none ⌝ }
 {
     let source = edge.source;
