@@ -2,7 +2,6 @@
 -- behind the edge last read. Assumes nothing.
 use mathlib.Core.Path.{_≡_, ap, sym, _∙_}
 use mathlib.Core.Bool.{false}
-use mathlib.Core.List.{_∷_}
 use mathlib.Core.Option.{none}
 use Prim.Native.Nat.{_+_, _*_, _-_, _≤_}
 use native.Mathlib.Nat.{mul-suc}
@@ -17,7 +16,7 @@ use Rattle.file.specs.Contents.{edgesFrom}
 use Rattle.file.specs.Refusals.{firstFault}
 use Rattle.file.specs.Code.{edgeOf, edgeBefore, faultOf}
 use Rattle.file.proofs.Bounds.{edges-high}
-use Rattle.file.proofs.EdgeLists.{edges-cons, fault-here, fault-next}
+use Rattle.file.proofs.EdgeLists.{file-fault-here, file-fault-next}
 use Rattle.file.proofs.edges.test_file.Statement.{statement}
 use Rattle.file.proofs.edges.test_file.Tie as tie
 
@@ -52,16 +51,14 @@ enum-told-2 c = search needs
 
 returns : tie.Need-returns Inv-loop μ-loop
 returns c =
+    let read = c .before .before .before .read in
     let loop = c .before .before .before .before .before .loop in
     let a = c .before .before .before .before .before .before .before .before .args in
-    let g = c .enum-told2 .given in
-    let edge = edgeOf (c .before .before .before .read .result) in
-    let rest = edgesFrom (a .p) (now (a .file)) (loop .place + edgeBits (a .p)) (a .e - (loop .i + 1)) in
-    let here : edgesFrom (a .p) (now (a .file)) (loop .place) (a .e - loop .i) ≡ edge ∷ rest =
-    edges-cons (a .p) (now (a .file)) (loop .place) (a .e) (loop .i) (omega arith) ∙ rw (c .before .before .before .read .ensures .0) in
-    ap faultOf (g .1)
-    ∙ fault-here (a .n) (a .m) (loop .i) (edgeBefore (eqb (loop .i) 0) (loop .before)) edge rest _ (sym (ap faultOf (g .1)) ∙ c .before .before .test .ensures)
-    ∙ sym (loop .inv .2 ∙ rw here)
+    let found = ap faultOf (c .enum-told2 .given .1) in
+    found
+    ∙ file-fault-here (a .p) (now (a .file)) (loop .place) (a .e) (loop .i) (omega arith) (edgeOf (read .result)) (read .ensures .0) (a .n) (a .m) (edgeBefore (eqb (loop .i) 0) (loop .before)) _
+    (sym found ∙ c .before .before .test .ensures)
+    ∙ sym (loop .inv .2)
 
 add-place : tie.Need-add-place Inv-loop μ-loop
 add-place c =
@@ -77,19 +74,17 @@ loop-less c = omega arith
 
 loop-again : tie.Need-loop-again Inv-loop μ-loop
 loop-again c =
+    let read = c .before .before .before .read in
     let loop = c .before .before .before .before .before .loop in
     let bits = c .before .before .before .before .before .before .edge-bits .ensures .0 in
     let a = c .before .before .before .before .before .before .before .before .args in
-    let g = c .enum-told .given in
-    let edge = edgeOf (c .before .before .before .read .result) in
-    let rest = edgesFrom (a .p) (now (a .file)) (loop .place + edgeBits (a .p)) (a .e - (loop .i + 1)) in
-    let here : edgesFrom (a .p) (now (a .file)) (loop .place) (a .e - loop .i) ≡ edge ∷ rest =
-    edges-cons (a .p) (now (a .file)) (loop .place) (a .e) (loop .i) (omega arith) ∙ rw (c .before .before .before .read .ensures .0) in
     let later : eqb (loop .i + 1) 0 ≡ false = ne-eqb (loop .i + 1) 0 (λ z. omega arith) in (
       omega arith,
       rw (bits, loop .inv .1, add-one (loop .i), mul-suc (edgeBits (a .p)) (loop .i)) (omega arith),
       loop .inv .2
-          ∙ rw (here, bits, later) (fault-next (a .n) (a .m) (loop .i) (edgeBefore (eqb (loop .i) 0) (loop .before)) edge rest (sym (ap faultOf (g .1)) ∙ c .before .before .test .ensures)),
+          ∙ rw (bits, later)
+          (file-fault-next (a .p) (now (a .file)) (loop .place) (a .e) (loop .i) (omega arith) (edgeOf (read .result)) (read .ensures .0) (a .n) (a .m) (edgeBefore (eqb (loop .i) 0) (loop .before))
+          (sym (ap faultOf (c .enum-told .given .1)) ∙ c .before .before .test .ensures)),
     )
 
 returns-2 : tie.Need-returns-2 Inv-loop μ-loop
