@@ -11,7 +11,7 @@ use native.Mathlib.Omega.{arith}
 use borrow.Author.Needs.{needs}
 use borrow.Author.Tests.{ne-eqb}
 use denote.Ref.{now}
-use lib.Dec.{eqb}
+use lib.Dec.{eqb, lit<}
 use lib.ListN.{length, length-set, length-replicate}
 use lib.Pow.{pow-mono}
 use Rattle.bits.proofs.Reading.{field-lt}
@@ -33,6 +33,7 @@ use Rattle.table.proofs.read_edges.Tie as tie
 abbrev Inv-loop : tie.InvT-loop
 Inv-loop table₀ p file at n m e width before₀ place₀ i₀ table before place i =
     (i ≤ e) × (place ≡ at + edgeBits p * i) × (length table ≡ 16384)
+    × ((before .source < 256) × (before .label < 256))
     × (firstFault n m none 0 (edgesFrom p file at e) ≡ firstFault n m (edgeBefore (eqb i 0) before) i (edgesFrom p file place (e - i)))
     × (firstFault n m none 0 (edgesFrom p file at e) ≡ none → look table ≡ target (edgesFrom p file at i))
 
@@ -52,7 +53,7 @@ loop-holds c =
     let is = c .before .before .pre .4 in
     let e = c .before .before .args .e in
     let z : e - 0 ≡ e = omega arith in
-    (omega arith, omega arith, ap length is ∙ length-replicate {A = ℕ} 16384 65535, rw z, λ clear. ap look is ∙ look-empty)
+    (omega arith, omega arith, ap length is ∙ length-replicate {A = ℕ} 16384 65535, (lit< tt, lit< tt), rw z, λ clear. ap look is ∙ look-empty)
 
 read-requires : tie.Need-read-requires Inv-loop μ-loop
 read-requires c κs = search needs
@@ -76,7 +77,7 @@ returns c =
     found
     ∙ file-fault-here (a .p) (now (a .file)) (loop .place) (a .e) (loop .i) (omega arith) (edgeOf (read .result)) (read .ensures .0) (a .n) (a .m) (edgeBefore (eqb (loop .i) 0) (loop .before)) _
     (sym found ∙ c .before .before .test .ensures)
-    ∙ sym (loop .inv .3) in
+    ∙ sym (loop .inv .4) in
     (first, (λ clear. faulty _ (sym found ∙ first ∙ clear), loop .inv .2))
 
 cast-to : tie.Need-cast-to Inv-loop μ-loop
@@ -137,12 +138,13 @@ loop-again c =
       omega arith,
       rw (bits, loop .inv .1, add-one i, mul-suc (edgeBits (a .p)) i) (omega arith),
       length-set (loop .table) _ _ ∙ loop .inv .2,
-      loop .inv .3
+      (read .read .ensures .1 .0, read .read .ensures .1 .1),
+      loop .inv .4
           ∙ rw (bits, later)
           (file-fault-next (a .p) s (loop .place) (a .e) i (read .before .loop-test .taken) edge (read .read .ensures .0) (a .n) (a .m) (edgeBefore (eqb i 0) (loop .before))
           (sym (ap faultOf (told .enum-told .given .1)) ∙ told .before .before .test .ensures)),
       λ clear.
-          look-more (loop .table) es edge rest (loop .inv .2) (read .read .ensures .1 .0) (label<64 read) (read .read .ensures .1 .2) (loop .inv .4 clear)
+          look-more (loop .table) es edge rest (loop .inv .2) (read .read .ensures .1 .0) (label<64 read) (read .read .ensures .1 .2) (loop .inv .5 clear)
           (ap ascending (sym parts) ∙ fault-free (a .n) (a .m) 0 none (edgesFrom (a .p) s (a .at) (a .e)) clear .ascend)
           ∙ ap target (sym (edges-more (a .p) s (a .at) i ∙ ap (λ (e : Edge). es ++ (e ∷ [])) is)),
     )
@@ -155,8 +157,8 @@ returns-2 c =
     let a = start .args in
     let none-left : a .e - loop .i ≡ 0 = omega (arith, c .loop-test .left) in
     let all : loop .i ≡ a .e = le-antisymm (loop .inv .0) (c .loop-test .left) in (
-      sym (loop .inv .3 ∙ rw none-left),
-      (λ clear. loop .inv .4 clear ∙ ap (λ (k : ℕ). target (edgesFrom (a .p) (now (a .file)) (a .at) k)) all, loop .inv .2),
+      sym (loop .inv .4 ∙ rw none-left),
+      (λ clear. loop .inv .5 clear ∙ ap (λ (k : ℕ). target (edgesFrom (a .p) (now (a .file)) (a .at) k)) all, loop .inv .2),
     )
 
 pub read-edges-spec : {M : Type 1} → statement M
