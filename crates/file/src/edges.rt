@@ -27,8 +27,8 @@ fn faulty(kind: Kind, place: usize) -> Verdict
     Verdict::Faulty(Refusal { kind, place })
 }
 
-// The one test of an edge with index i, behind the edge before it; the first edge has none before it. Sources and labels are bytes,
-// so that an edge's order is that of one number, and it takes no guess which of the two decides.
+// The one test of an edge with index i, behind the edge before it; the first edge has none before it. Sources and labels are bytes:
+// the two side by side are one number, and the order takes no jump that depends on which of them decides.
 pub fn test(n: usize, m: usize, i: usize, before: Edge, edge: Edge) -> Verdict
     requires { ⌜ (before .source < 256) × (before .label < 256) × (edge .source < 256) × (edge .label < 256) ⌝ }
     ensures { λ r. ⌜ faultOf r ≡ faultAt i (edgeFault n m (edgeBefore (eqb i 0) before) (edgeOf edge)) none ⌝ }

@@ -1,6 +1,6 @@
 -- `file::check_as` meets its contract: a refusal before the edges is the answer, and otherwise the first fault of the edges decides.
 -- Assumes nothing.
-use mathlib.Core.Path.{_≡_, ap, sym, _∙_}
+use mathlib.Core.Path.{ap, sym, _∙_}
 use mathlib.Core.List.{List}
 use Prim.Native.Nat.{ℕ}
 use native.Mathlib.Omega.{arith}

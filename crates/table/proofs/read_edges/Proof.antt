@@ -1,7 +1,7 @@
 -- `table::read_edges` meets its contract. The invariant: the first fault of all edges is that of those not yet tested, behind the
 -- edge last read; and where there is no fault, the table looks up the edges read so far. Assumes nothing.
 use mathlib.Core.Path.{_≡_, ap, sym, _∙_}
-use mathlib.Core.Bool.{true, false}
+use mathlib.Core.Bool.{false}
 use mathlib.Core.List.{[], _∷_, _++_}
 use mathlib.Core.Option.{Option, none, some}
 use Prim.Native.Nat.{ℕ, _+_, _*_, _-_, _<_, _≤_}

@@ -1,5 +1,4 @@
 -- `tracing::first_outside` meets its contract: where the largest observation is below m, none is m or more. Assumes nothing.
-use mathlib.Core.Path.{_≡_}
 use native.Mathlib.Omega.{arith}
 use borrow.Author.Needs.{needs}
 use borrow.Author.Tests.{le-ltb}

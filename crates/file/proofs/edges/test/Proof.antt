@@ -1,13 +1,24 @@
 -- `file::edges::test` meets its contract: each way out has passed the tests before it. Assumes nothing.
 use mathlib.Core.Path.{_≡_}
+use Prim.Native.Nat.{_+_, _*_}
 use borrow.Author.Needs.{needs}
 use borrow.Author.Tests.{lt-ltb, le-ltb, eq-eqb, ne-eqb}
-use Rattle.meaning.specs.Filter.{inside}
+use lib.Dec.{eqb, ltb}
+use Rattle.meaning.specs.Filter.{inside, comesBefore, samePlace}
 use Rattle.file.specs.Refusals.{edgeFault}
 use Rattle.file.specs.Code.{edgeOf}
 use Rattle.file.proofs.Tests.{before-rank, place-rank}
 use Rattle.file.proofs.edges.test.Statement.{statement}
 use Rattle.file.proofs.edges.test.Tie as tie
+
+-- the order and the place of the two edges, by the numbers that are compared
+by-rank : (c : tie.Start) → comesBefore (edgeOf (c .args .edge)) (edgeOf (c .args .before))
+    ≡ ltb (c .args .edge .source * 256 + c .args .edge .label) (c .args .before .source * 256 + c .args .before .label)
+by-rank c = before-rank (edgeOf (c .args .edge)) (edgeOf (c .args .before)) (c .pre .3) (c .pre .1)
+
+place-by-rank : (c : tie.Start) → samePlace (edgeOf (c .args .edge)) (edgeOf (c .args .before))
+    ≡ eqb (c .args .edge .source * 256 + c .args .edge .label) (c .args .before .source * 256 + c .args .before .label)
+place-by-rank c = place-rank (edgeOf (c .args .edge)) (edgeOf (c .args .before)) (c .pre .3) (c .pre .1)
 
 faulty-requires : tie.Need-faulty-requires
 faulty-requires c κs = search needs
@@ -65,8 +76,7 @@ returns-5 c =
     let e3 = e4 .before in
     let e2 = e3 .before in
     let e1 = e2 .before in
-    let first = before-rank (edgeOf (e1 .before .args .edge)) (edgeOf (e1 .before .args .before)) (e1 .before .pre .3) (e1 .before .pre .1) in
-    simp (c .faulty4 .ensures, lt-ltb _ _ (e1 .if1 .left), lt-ltb _ _ (e2 .if2 .left), lt-ltb _ _ (e3 .if3 .left), ne-eqb _ _ (e4 .if4 .left), first, lt-ltb _ _ (c .before .if5 .taken))
+    simp (c .faulty4 .ensures, lt-ltb _ _ (e1 .if1 .left), lt-ltb _ _ (e2 .if2 .left), lt-ltb _ _ (e3 .if3 .left), ne-eqb _ _ (e4 .if4 .left), by-rank (e1 .before), lt-ltb _ _ (c .before .if5 .taken))
 
 faulty-requires-5 : tie.Need-faulty-requires-5
 faulty-requires-5 c κs = search needs
@@ -79,9 +89,7 @@ returns-6 c =
     let e3 = e4 .before in
     let e2 = e3 .before in
     let e1 = e2 .before in
-    let first = before-rank (edgeOf (e1 .before .args .edge)) (edgeOf (e1 .before .args .before)) (e1 .before .pre .3) (e1 .before .pre .1) in
-    let same = place-rank (edgeOf (e1 .before .args .edge)) (edgeOf (e1 .before .args .before)) (e1 .before .pre .3) (e1 .before .pre .1) in
-    simp (c .faulty5 .ensures, lt-ltb _ _ (e1 .if1 .left), lt-ltb _ _ (e2 .if2 .left), lt-ltb _ _ (e3 .if3 .left), ne-eqb _ _ (e4 .if4 .left), first, le-ltb _ _ (e5 .if5 .left), same, eq-eqb _ _ (c .before .if6 .taken))
+    simp (c .faulty5 .ensures, lt-ltb _ _ (e1 .if1 .left), lt-ltb _ _ (e2 .if2 .left), lt-ltb _ _ (e3 .if3 .left), ne-eqb _ _ (e4 .if4 .left), by-rank (e1 .before), le-ltb _ _ (e5 .if5 .left), place-by-rank (e1 .before), eq-eqb _ _ (c .before .if6 .taken))
 
 returns-7 : tie.Need-returns-7
 unfolding edgeFault inside
@@ -91,9 +99,7 @@ returns-7 c =
     let e3 = e4 .before in
     let e2 = e3 .before in
     let e1 = e2 .before in
-    let first = before-rank (edgeOf (e1 .before .args .edge)) (edgeOf (e1 .before .args .before)) (e1 .before .pre .3) (e1 .before .pre .1) in
-    let same = place-rank (edgeOf (e1 .before .args .edge)) (edgeOf (e1 .before .args .before)) (e1 .before .pre .3) (e1 .before .pre .1) in
-    simp (lt-ltb _ _ (e1 .if1 .left), lt-ltb _ _ (e2 .if2 .left), lt-ltb _ _ (e3 .if3 .left), ne-eqb _ _ (e4 .if4 .left), first, le-ltb _ _ (e5 .if5 .left), same, ne-eqb _ _ (c .if6 .left))
+    simp (lt-ltb _ _ (e1 .if1 .left), lt-ltb _ _ (e2 .if2 .left), lt-ltb _ _ (e3 .if3 .left), ne-eqb _ _ (e4 .if4 .left), by-rank (e1 .before), le-ltb _ _ (e5 .if5 .left), place-by-rank (e1 .before), ne-eqb _ _ (c .if6 .left))
 
 pub test-spec : {M : Type 1} → statement M
 test-spec =
