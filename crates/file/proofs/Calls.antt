@@ -1,8 +1,9 @@
--- The promises of unpack and pack in each of their cases, from what was answered before.
+-- What check, unpack and pack answer in each of their cases, from what was answered before.
 -- Assumes nothing.
 use mathlib.Core.Path.{_≡_, refl, sym, ap, _∙_}
 use mathlib.Core.Bool.{Bool, true, false, _||_}
 use mathlib.Core.List.{List, [], _∷_, _++_}
+use mathlib.Core.Option.{none}
 use Prim.Native.Nat.{ℕ, _+_, _*_, _≤_, _<_}
 use native.Mathlib.Omega.{arith}
 use lib.Dec.{ltb}
@@ -23,12 +24,72 @@ use Rattle.file.specs.declared.Packed.the-variants as packed
 use Rattle.file.specs.Layout.{headerBits, edgesBegin, flat, written}
 use Rattle.file.specs.Contents.{statesIn, labelsIn, startIn, countIn, coloursIn, edgesFrom, edgesIn}
 use Rattle.file.specs.Answers.{Outcome, accepted, refused, readingOutcome, refusalOutcome, checkedOutcome, unpackedOutcome, packedOutcome}
-use Rattle.file.specs.Refusals.{firstOf, onward, checkOf, numbersIn, unpackTests, unpackOf, packOf, listed, laid}
+use Rattle.file.specs.Refusals.{Test, firstOf, firstFault, fileTests, numbersIn, headOf, fromEdges, checkOf, onward, unpackTests, unpackOf, packOf, listed, laid}
+use Rattle.file.specs.declared.edges.Verdict.the-variants.{Faulty}
+use Rattle.file.specs.Code.{faultOf}
 use Rattle.file.specs.Promise.{CheckPromise, UnpackPromise, PackPromise}
 use Rattle.file.proofs.EdgeLists.{length-flat}
-use Rattle.meaning.specs.Cases.{clash}
+use Rattle.meaning.specs.Cases.{clash, test}
 use Rattle.file.proofs.Tests.{first-accepted, Sound, check-sound}
 use Rattle.file.proofs.Files.{length-colours, length-edges-in}
+
+-- ---- check
+
+-- the first of the tests that is given is also the first of them before anything else that follows
+first-onward : (ts : List Test) (vs : List ℕ) (next : Outcome) → firstOf ts next ≡ onward (firstOf ts (accepted vs)) next
+first-onward [] vs next = refl
+first-onward (t ∷ ts) vs next = test (t .given) (λ q. rw q) (λ q. rw q (first-onward ts vs next))
+
+-- a check is the tests before the edges, and then the first fault of the edges
+pub check-headed : (P : Profile) (s : List ℕ) → checkOf P s ≡ onward (headOf P s) (fromEdges P s)
+unfolding checkOf headOf
+check-headed P s = first-onward (fileTests P s) (numbersIn P s) (fromEdges P s)
+
+-- The numbers that are read before the edges are the file's.
+pub record HeadIs (P : Profile) (s : List ℕ) (r : Reading) : Type 0 where
+  pub onto-edges : checkOf P s ≡ fromEdges P s
+  pub states-are : r .states ≡ statesIn P s
+  pub labels-are : r .labels ≡ labelsIn P s
+  pub start-is : r .start ≡ startIn P s
+  pub count-is : r .edges ≡ countIn P s
+
+pub head-is : (P : Profile) (s : List ℕ) (r : Reading) → headOf P s ≡ readingOutcome r → HeadIs P s r
+unfolding headOf
+head-is P s r h =
+    let q = first-accepted (fileTests P s) (accepted (numbersIn P s)) _ h in
+    let n : numbersIn P s ≡ r .states ∷ r .labels ∷ r .start ∷ r .edges ∷ [] = cc (q .1) in
+    record {
+      onto-edges = check-headed P s ∙ ap (λ o. onward o (fromEdges P s)) h;
+      states-are = cc;
+      labels-are = cc;
+      start-is = cc;
+      count-is = cc;
+    }
+
+-- a refusal before the edges is the check's
+pub head-refused : (P : Profile) (s : List ℕ) (why : Refusal) → headOf P s ≡ refusalOutcome why → checkOf P s ≡ refusalOutcome why
+head-refused P s why h = check-headed P s ∙ ap (λ o. onward o (fromEdges P s)) h
+
+edged : (P : Profile) (s : List ℕ) → edgesFrom P s (edgesBegin P (statesIn P s)) (countIn P s) ≡ edgesIn P s
+unfolding edgesIn
+edged P s = refl
+
+-- what the edges decide, as they are read from where they begin
+module _ (P : Profile) (s : List ℕ) (r : Reading) (is : HeadIs P s r) (at : ℕ) (begin : at ≡ edgesBegin P (r .states)) where
+  pub edges-read : edgesFrom P s at (r .edges) ≡ edgesIn P s
+  edges-read = rw (begin, is .states-are, is .count-is) (edged P s)
+
+  pub faults-read : firstFault (r .states) (r .labels) none 0 (edgesFrom P s at (r .edges)) ≡ firstFault (statesIn P s) (labelsIn P s) none 0 (edgesIn P s)
+  faults-read = rw (edges-read, is .states-are, is .labels-are)
+
+  pub check-faultless : firstFault (r .states) (r .labels) none 0 (edgesFrom P s at (r .edges)) ≡ none → checkOf P s ≡ readingOutcome r
+  check-faultless h =
+      is .onto-edges ∙ rw (sym faults-read ∙ h) (ap accepted (sym (rw (is .states-are, is .labels-are, is .start-is, is .count-is))))
+
+  pub check-faulty : (why : Refusal) → firstFault (r .states) (r .labels) none 0 (edgesFrom P s at (r .edges)) ≡ faultOf (Faulty why) → checkOf P s ≡ refusalOutcome why
+  check-faulty why h = is .onto-edges ∙ rw (sym faults-read ∙ h)
+
+-- ---- unpack
 
 or-left : (a b : Bool) → a ≡ true → a || b ≡ true
 or-left true b h = refl
@@ -45,10 +106,6 @@ or-neither false b h k = k
 coloured : (P : Profile) (s : List ℕ) → fields s (headerBits P) (replicate (statesIn P s) (P .colour)) ≡ coloursIn P s
 unfolding coloursIn
 coloured P s = refl
-
-edged : (P : Profile) (s : List ℕ) → edgesFrom P s (edgesBegin P (statesIn P s)) (countIn P s) ≡ edgesIn P s
-unfolding edgesIn
-edged P s = refl
 
 -- rooms that hold the lists pass unpack's test
 roomy : (P : Profile) (s : List ℕ) (c e : ℕ) → statesIn P s ≤ c → 3 * countIn P s ≤ e → ltb c (statesIn P s) || ltb e (3 * countIn P s) ≡ false

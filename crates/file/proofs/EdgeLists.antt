@@ -276,3 +276,15 @@ pub fault-here : (n m i : ℕ) (before : Option Edge) (e : Edge) (es : List Edge
     some r ≡ firstFault n m before i (e ∷ es)
 unfolding firstFault
 fault-here n m i before e es r h = decided i (edgeFault n m before e) _ r h
+
+-- the same of the edges in a file from index i on, whose first is the one at bit `place`
+module _ (P : Profile) (s : List ℕ) (place e i : ℕ) (more : i < e) (edge : Edge) (is : edge ≡ edgeAt P s place) (n m : ℕ) (before : Option Edge) where
+  here : edgesFrom P s place (e - i) ≡ edge ∷ edgesFrom P s (place + edgeBits P) (e - (i + 1))
+  here = edges-cons P s place e i more ∙ rw is
+
+  pub file-fault-here : (r : Fault) → some r ≡ faultAt i (edgeFault n m before edge) none → some r ≡ firstFault n m before i (edgesFrom P s place (e - i))
+  file-fault-here r h = fault-here n m i before edge _ r h ∙ ap (firstFault n m before i) (sym here)
+
+  pub file-fault-next : none ≡ faultAt i (edgeFault n m before edge) none →
+      firstFault n m before i (edgesFrom P s place (e - i)) ≡ firstFault n m (some edge) (i + 1) (edgesFrom P s (place + edgeBits P) (e - (i + 1)))
+  file-fault-next h = ap (firstFault n m before i) here ∙ fault-next n m i before edge _ h

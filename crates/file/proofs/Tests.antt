@@ -4,7 +4,7 @@ use mathlib.Core.Path.{_≡_, refl, sym, _∙_}
 use mathlib.Core.Bool.{Bool, true, false, not, _&&_, _||_}
 use mathlib.Core.List.{List, [], _∷_}
 use mathlib.Core.Option.{Option, none, some}
-use Prim.Native.Nat.{ℕ, suc, _*_, _-_, _^_, _≤_, _<_}
+use Prim.Native.Nat.{ℕ, suc, _+_, _*_, _-_, _^_, _≤_, _<_}
 use native.Mathlib.Omega.{arith}
 use lib.Dec.{eqb, leb, ltb}
 use lib.ListN.{length}
@@ -75,6 +75,34 @@ after a b h k = go (ltb (b .source) (a .source)) refl
             let l2 : eqb (a .label) (b .label) ≡ false = rw s1 at k in
             let l : b .label < a .label = order (a .label) (b .label) (ltb-false (a .label) (b .label) l1) (eqb-false (a .label) (b .label) l2) in
             rw (e, s2) (lt-ltb _ _ l)
+
+-- labels below 256: the order of edges is that of one number, and so is their place
+module _ (a b : Edge) (al : a .label < 256) (bl : b .label < 256) where
+  pub before-rank : comesBefore a b ≡ ltb (a .source * 256 + a .label) (b .source * 256 + b .label)
+  unfolding comesBefore
+  before-rank =
+      test (ltb (a .source) (b .source))
+      (λ p. rw (p, lt-ltb (a .source * 256 + a .label) (b .source * 256 + b .label) (omega (arith, ltb-true (a .source) (b .source) p))))
+      (λ p. test (eqb (a .source) (b .source))
+      (λ q. rw (p, q, eqb-true (a .source) (b .source) q) (same-source (a .label) (b .label)))
+      (λ q. let n = eqb-false (a .source) (b .source) q in
+      rw (p, q, le-ltb (a .source * 256 + a .label) (b .source * 256 + b .label) (omega (arith, order (a .source) (b .source) (ltb-false (a .source) (b .source) p) n)))))
+    where
+      same-source : (x y : ℕ) → ltb x y ≡ ltb (b .source * 256 + x) (b .source * 256 + y)
+      same-source x y =
+          test (ltb x y) (λ p. rw (p, lt-ltb (b .source * 256 + x) (b .source * 256 + y) (omega (arith, ltb-true x y p))))
+          (λ p. rw (p, le-ltb (b .source * 256 + x) (b .source * 256 + y) (omega (arith, ltb-false x y p))))
+
+  pub place-rank : samePlace a b ≡ eqb (a .source * 256 + a .label) (b .source * 256 + b .label)
+  unfolding samePlace
+  place-rank =
+      test (eqb (a .source * 256 + a .label) (b .source * 256 + b .label))
+      (λ p. let e = eqb-true (a .source * 256 + a .label) (b .source * 256 + b .label) p in
+      rw (p, eq-eqb (a .source) (b .source) (omega arith), eq-eqb (a .label) (b .label) (omega arith)))
+      (λ p. test (eqb (a .source) (b .source))
+      (λ q. let e = eqb-true (a .source) (b .source) q in
+      rw (p, q, ne-eqb (a .label) (b .label) (λ z. eqb-false (a .source * 256 + a .label) (b .source * 256 + b .label) p (omega arith))))
+      (λ q. rw (p, q)))
 
 pick-clear : (b : Bool) (k : ℕ) (next : Option ℕ) → pick b (some k) next ≡ none → (b ≡ false) × (next ≡ none)
 pick-clear true k next h = none-some k h

@@ -84,6 +84,10 @@ fileTests P file =
 abbrev pub numbersIn : Profile → List ℕ → List ℕ
 numbersIn P file = statesIn P file ∷ labelsIn P file ∷ startIn P file ∷ countIn P file ∷ []
 
+-- What is answered before the edges are looked at.
+unfoldable pub headOf : Profile → List ℕ → Outcome
+headOf P file = firstOf (fileTests P file) (accepted (numbersIn P file))
+
 abbrev pub fromEdges : Profile → List ℕ → Outcome
 fromEdges P file =
     edgesThen placeInFile (firstFault (statesIn P file) (labelsIn P file) none 0 (edgesIn P file))

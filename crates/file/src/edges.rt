@@ -28,8 +28,10 @@ fn faulty(kind: Kind, place: usize) -> Verdict
     Verdict::Faulty(Refusal { kind, place })
 }
 
-// The one test of an edge with index i, behind the edge before it; the first edge has none before it.
-fn test(n: usize, m: usize, i: usize, before: Edge, edge: Edge) -> Verdict
+// The one test of an edge with index i, behind the edge before it; the first edge has none before it. Sources and labels are bytes:
+// the two side by side are one number, and the order takes no jump that depends on which of them decides.
+pub fn test(n: usize, m: usize, i: usize, before: Edge, edge: Edge) -> Verdict
+    requires { ⌜ (before .source < 256) × (before .label < 256) × (edge .source < 256) × (edge .label < 256) ⌝ }
     ensures { λ r. ⌜ faultOf r ≡ faultAt i (edgeFault n m (edgeBefore (eqb i 0) before) (edgeOf edge)) none ⌝ }
 {
     let source = edge.source;
@@ -49,16 +51,12 @@ fn test(n: usize, m: usize, i: usize, before: Edge, edge: Edge) -> Verdict
     if i == 0 {
         return Verdict::Faultless;
     }
-    if source < source_before {
+    let here = source * 256 + label;
+    let there = source_before * 256 + label_before;
+    if here < there {
         return faulty(Kind::Order, i);
     }
-    if source_before < source {
-        return Verdict::Faultless;
-    }
-    if label < label_before {
-        return faulty(Kind::Order, i);
-    }
-    if label == label_before {
+    if here == there {
         return faulty(Kind::Repeated, i);
     }
     Verdict::Faultless

@@ -1,6 +1,6 @@
 // The filter file: check, unpack and pack.
 pub mod edge; // one edge, read or written
-mod edges; // edges tested; runs of them read and written
+pub mod edges; // edges tested; runs of them read and written
 pub mod header; // the four numbers before the colours
 pub mod layout; // sizes and positions
 
@@ -12,7 +12,7 @@ ghost use lib.ListN.{length};
 ghost use Rattle.bits.specs.Bits.{putField};
 ghost use Rattle.file.specs.Layout.{large, fileBits, fillBits, lengthOf, written};
 ghost use Rattle.file.specs.Answers.{numberOf, accepted, checkedOutcome, unpackedOutcome, packedOutcome};
-ghost use Rattle.file.specs.Refusals.{firstOf, roomTest, allBelow, holdable, packOf, listed, laid};
+ghost use Rattle.file.specs.Refusals.{firstOf, headOf, roomTest, allBelow, holdable, packOf, listed, laid};
 ghost use Rattle.file.specs.Code.{Usable};
 ghost use Rattle.file.specs.Promise.{CheckPromise, UnpackPromise, PackPromise};
 
@@ -111,9 +111,10 @@ fn refused(kind: Kind) -> Checked
     Checked::Refused(Refusal { kind, place: 0 })
 }
 
-fn check_as(p: Profile, file: &[u8]) -> Checked
+// What is tested before the edges: reads the file's numbers, or says which of refusals 1 to 6 it gets.
+pub fn headed(p: Profile, file: &[u8]) -> Checked
     requires { ⌜ Usable p ⌝ }
-    ensures { λ r. ⌜ CheckPromise p (now (file .entry)) r ⌝ }
+    ensures { λ r. ⌜ checkedOutcome r ≡ headOf p (now (file .entry)) ⌝ }
 {
     if file.len() < layout::bytes_for(layout::header_bits(p)) {
         return refused(Kind::TooShort);
@@ -139,7 +140,19 @@ fn check_as(p: Profile, file: &[u8]) -> Checked
     if bits::get(file, bits, length * 8 - bits) != 0 {
         return refused(Kind::Filling);
     }
-    let verdict = edges::test_file(p, file, layout::edges_begin(p, n), n, m, e);
+    Checked::Accepted(r)
+}
+
+fn check_as(p: Profile, file: &[u8]) -> Checked
+    requires { ⌜ Usable p ⌝ }
+    ensures { λ r. ⌜ CheckPromise p (now (file .entry)) r ⌝ }
+{
+    let answer = headed(p, file);
+    let Checked::Accepted(r) = answer else {
+        return answer;
+    };
+    let n = r.states;
+    let verdict = edges::test_file(p, file, layout::edges_begin(p, n), n, r.labels, r.edges);
     let Verdict::Faulty(why) = verdict else {
         return Checked::Accepted(r);
     };

@@ -7,11 +7,13 @@ ghost use mathlib.Core.Path.{_≡_};
 ghost use mathlib.Core.List.{_∷_, []};
 ghost use Prim.Native.Nat.{_≤_};
 ghost use lib.ListN.{length};
+ghost use Rattle.meaning.specs.Trace.{edge};
 ghost use Rattle.meaning.specs.Reduced.{reduced, classList};
 ghost use Rattle.file.specs.Layout.{large, written};
 ghost use Rattle.file.specs.Contents.{filterIn};
 ghost use Rattle.file.specs.Answers.{accepted, readingOutcome, checkedOutcome};
 ghost use Rattle.file.specs.Refusals.{onward, checkOf, laid};
+ghost use Rattle.table.specs.Table.{look};
 ghost use Rattle.reduction.specs.Answers.{countsOutcome, reducedOutcome};
 ghost use Rattle.reduction.specs.Reducing.{countsOf};
 ghost use Rattle.reduction.specs.Promise.{ReducePromise};
@@ -33,7 +35,8 @@ pub enum Reduced {
 pub fn reduce(file: &[u8], answer: &mut [u8], classes: &mut [u16]) -> Reduced
     ensures { λ r. ⌜ ReducePromise large (now (file .entry)) (now (answer .entry)) (now (classes .entry)) r (now (answer .exit)) (now (classes .exit)) ⌝ }
 {
-    let checked = file::check(file);
+    let mut table = table::empty();
+    let checked = table::read(&mut table, file);
     let Checked::Accepted(reading) = checked else {
         return passed_on(checked);
     };
@@ -44,7 +47,7 @@ pub fn reduce(file: &[u8], answer: &mut [u8], classes: &mut [u16]) -> Reduced
     if classes.len() < reading.states {
         return refused(Kind::ClassRoom);
     }
-    Reduced::Accepted(fold(file, reading, answer, classes))
+    Reduced::Accepted(fold(&mut table, file, reading, answer, classes))
 }
 
 // A check's refusal as reduce's own.
@@ -74,20 +77,24 @@ fn wide(x: u16) -> usize
     x as usize
 }
 
-// Reduces a file that was checked, into rooms that are long enough.
-fn fold(file: &[u8], reading: Reading, answer: &mut [u8], classes: &mut [u16]) -> Counts
-    requires { ⌜ (checkOf large (now file) ≡ readingOutcome reading) × (length (now file) ≤ length (now answer)) × (reading .states ≤ length (now classes)) ⌝ }
+// Reduces a file that was checked and whose edges are in the table, into rooms that are long enough.
+fn fold(
+    table: &mut [u16; 16384],
+    file: &[u8],
+    reading: Reading,
+    answer: &mut [u8],
+    classes: &mut [u16],
+) -> Counts
+    requires { ⌜ (checkOf large (now file) ≡ readingOutcome reading) × (look (now table) ≡ edge (filterIn large (now file))) × (length (now table) ≡ 16384) × (length (now file) ≤ length (now answer)) × (reading .states ≤ length (now classes)) ⌝ }
     ensures counts { λ r. ⌜ countsOutcome r ≡ accepted (countsOf large (filterIn large (now (file .entry)))) ⌝ }
     ensures answer { λ r. ⌜ now (answer .exit) ≡ laid (written large (reduced (filterIn large (now (file .entry))))) (now (answer .entry)) ⌝ }
     ensures classes { λ r. ⌜ now (classes .exit) ≡ laid (classList (filterIn large (now (file .entry)))) (now (classes .entry)) ⌝ }
 {
-    let mut table = table::empty();
-    table::fill(&mut table, file, reading);
     let colours = table::colours_of(file, reading);
-    let ending = rounds::settled(&table, &colours, reading.labels, reading.states);
+    let ending = rounds::settled(table, &colours, reading.labels, reading.states);
     let last = ending.last;
     let names = last.names;
-    let made = merging::merged(&mut table, &colours, &names, reading, answer, classes);
+    let made = merging::merged(table, &colours, &names, reading, answer, classes);
     Counts {
         states: made.states,
         colours: ending.colours,

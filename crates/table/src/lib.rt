@@ -1,19 +1,24 @@
-// What a call looks up in a checked file: edges, state and label to target, and colours, each filled in one pass.
+// What a call looks up in a file: edges, state and label to target, filled as the file is checked, and colours.
+use file::Checked;
 use file::Profile;
 use file::Reading;
 use file::edge;
+use file::edge::Edge;
+use file::edges;
+use file::edges::Verdict;
 use file::layout;
 ghost use mathlib.Core.Path.{_≡_};
-ghost use mathlib.Core.Bool.{true};
-ghost use Prim.Native.Nat.{_+_, _*_, _<_, _≤_};
+ghost use mathlib.Core.List.{List};
+ghost use mathlib.Core.Option.{none};
+ghost use Prim.Native.Nat.{ℕ, _+_, _*_, _<_, _≤_};
 ghost use lib.ListN.{length, getD, replicate};
-ghost use Rattle.meaning.specs.Filter.{ascending};
 ghost use Rattle.meaning.specs.Trace.{target, edge, colour};
 ghost use Rattle.file.specs.Layout.{large};
 ghost use Rattle.file.specs.Contents.{edgesFrom, filterIn};
-ghost use Rattle.file.specs.Answers.{readingOutcome};
-ghost use Rattle.file.specs.Refusals.{checkOf};
-ghost use Rattle.file.specs.Code.{Usable};
+ghost use Rattle.file.specs.Answers.{accepted, readingOutcome};
+ghost use Rattle.file.specs.Refusals.{firstFault, checkOf};
+ghost use Rattle.file.specs.Code.{faultOf, Usable};
+ghost use Rattle.file.specs.Promise.{CheckPromise};
 ghost use Rattle.table.specs.Table.{look, given};
 
 // A table without edges.
@@ -23,33 +28,73 @@ pub fn empty() -> [u16; 16384]
     [65535; 16384]
 }
 
-// Fills an empty table with the edges of a file that was checked. The table is lent, so that a call has it on its stack once.
-pub fn fill(table: &mut [u16; 16384], file: &[u8], reading: Reading)
-    requires { ⌜ (checkOf large (now file) ≡ readingOutcome reading) × (now table ≡ replicate 16384 65535) ⌝ }
-    ensures { λ _. ⌜ (look (now (table .exit)) ≡ edge (filterIn large (now (file .entry)))) × (length (now (table .exit)) ≡ 16384) ⌝ }
+// Checks a file and puts its edges into an empty table, in one pass over them: of an accepted file the table has every edge. The
+// table is lent, so that a call has it on its stack once.
+pub fn read(table: &mut [u16; 16384], file: &[u8]) -> Checked
+    requires { ⌜ now table ≡ replicate 16384 65535 ⌝ }
+    ensures answer { λ r. ⌜ CheckPromise large (now (file .entry)) r ⌝ }
+    ensures edges { λ r. ⌜ ((numbers : List ℕ) → checkOf large (now (file .entry)) ≡ accepted numbers → look (now (table .exit)) ≡ edge (filterIn large (now (file .entry)))) ⌝ }
+    ensures length { λ r. ⌜ length (now (table .exit)) ≡ 16384 ⌝ }
 {
     let p = file::large();
-    let at = layout::edges_begin(p, reading.states);
-    fill_from(table, p, file, at, reading.edges);
+    let answer = file::headed(p, file);
+    let Checked::Accepted(r) = answer else {
+        return answer;
+    };
+    let n = r.states;
+    let verdict = read_edges(
+        table,
+        p,
+        file,
+        layout::edges_begin(p, n),
+        n,
+        r.labels,
+        r.edges,
+    );
+    let Verdict::Faulty(why) = verdict else {
+        return answer;
+    };
+    Checked::Refused(why)
 }
 
-// The same with e edges from bit `at` on.
-fn fill_from(table: &mut [u16; 16384], p: Profile, file: &[u8], at: usize, e: usize)
-    requires { ⌜ Usable p × (p .labels ≤ 6) × (at ≤ 2096) × (e ≤ 65536) × (ascending (edgesFrom p (now file) at e) ≡ true) × (now table ≡ replicate 16384 65535) ⌝ }
-    ensures { λ _. ⌜ (look (now (table .exit)) ≡ target (edgesFrom p (now (file .entry)) at e)) × (length (now (table .exit)) ≡ 16384) ⌝ }
+// Reads e edges from bit `at` on, up to the first fault, and puts each that has none into an empty table.
+fn read_edges(
+    table: &mut [u16; 16384],
+    p: Profile,
+    file: &[u8],
+    at: usize,
+    n: usize,
+    m: usize,
+    e: usize,
+) -> Verdict
+    requires { ⌜ Usable p × (p .labels ≤ 6) × (at ≤ 2096) × (e ≤ 65536) × (now table ≡ replicate 16384 65535) ⌝ }
+    ensures fault { λ r. ⌜ faultOf r ≡ firstFault n m none 0 (edgesFrom p (now (file .entry)) at e) ⌝ }
+    ensures edges { λ r. ⌜ (firstFault n m none 0 (edgesFrom p (now (file .entry)) at e) ≡ none → look (now (table .exit)) ≡ target (edgesFrom p (now (file .entry)) at e)) ⌝ }
+    ensures length { λ r. ⌜ length (now (table .exit)) ≡ 16384 ⌝ }
 {
     let width = layout::edge_bits(p);
+    let mut before = Edge {
+        source: 0,
+        label: 0,
+        target: 0,
+    };
     let mut place = at;
     let mut i = 0;
     while i < e {
         let edge = edge::read(p, file, place);
+        let verdict = edges::test(n, m, i, before, edge);
+        let Verdict::Faultless = verdict else {
+            return verdict;
+        };
         let source = edge.source;
         let label = edge.label;
         let to = edge.target as u16;
         table[source * 64 + label] = to;
+        before = edge;
         place += width;
         i += 1;
     }
+    Verdict::Faultless
 }
 
 fn no_colours() -> [u8; 256]

@@ -1,4 +1,4 @@
--- Laws of the ride, one observation further, and of the labels' test.
+-- Laws of the ride, one observation further, of the labels' test, and of the largest label.
 -- Assumes nothing.
 use mathlib.Core.Path.{_≡_, refl, sym, ap, ap₂, _∙_, fun-ext}
 use mathlib.Core.Bool.{Bool, true, false, _&&_}
@@ -11,16 +11,16 @@ use native.Mathlib.Omega.{arith}
 use lib.Dec.{leb, ltb}
 use lib.ListN.{length, getD, set, take, drop, replicate, length-append, drop-of-length-le, List·getD-append, List·getD-eq-default}
 use lib.Seq.{drop-cons, take-at, getD-drop, getD-append-add}
-use borrow.Author.Tests.{le-leb, lt-leb, leb-false, lt-ltb, ltb-true}
+use borrow.Author.Tests.{le-leb, lt-leb, leb-false, lt-ltb, le-ltb, ltb-true, ltb-false}
 use Rattle.bits.proofs.Runs.{store-more}
 use Rattle.meaning.specs.Pick.{pick}
 use Rattle.meaning.specs.Trace.{ridden, later, halted}
 use Rattle.meaning.specs.TraceLaws.{ridden-on, ridden-stop, halted-on, halted-stop}
-use Rattle.meaning.specs.Cases.{clash}
+use Rattle.meaning.specs.Cases.{clash, test}
 use Rattle.file.specs.Refusals.{laid}
 use Rattle.table.specs.Table.{entry, look}
 use Rattle.tracing.specs.Answers.{onto, stop, courseOf}
-use Rattle.tracing.specs.Tracing.{firstOutside}
+use Rattle.tracing.specs.Tracing.{firstOutside, larger, largest}
 
 -- ---- an index further on
 
@@ -68,6 +68,33 @@ all-inside m (y ∷ ys) z h i = go (leb m y) refl h i (all-inside m ys z)
     go true e k i r = clash cc
     go false e k zero r = leb-false m y e
     go false e k (suc i) r = r (none-later (firstOutside m ys) k) i
+
+-- ---- the largest
+
+larger-most : (x y z : ℕ) → larger (larger x y) z ≡ larger x (larger y z)
+larger-most x y z = test (ltb x y)
+    (λ p. test (ltb y z) (λ q. rw (p, q, lt-ltb x z (omega (arith, ltb-true x y p, ltb-true y z q)))) (λ q. rw (p, q, p)))
+    (λ p. test (ltb y z) (λ q. rw (p, q)) (λ q. rw (p, q, p, le-ltb x z (omega (arith, ltb-false x y p, ltb-false y z q)))))
+
+-- the largest is that of what was seen and of what is left
+pub largest-start : (ys : List ℕ) → largest ys ≡ larger 0 (largest (drop 0 ys))
+largest-start ys = test (ltb 0 (largest ys)) (λ q. rw q) (λ q. rw q (omega (arith, ltb-false 0 (largest ys) q)))
+
+pub largest-next : (ys : List ℕ) (i most : ℕ) → i < length ys → larger most (largest (drop i ys)) ≡ larger (larger most (getD ys i 0)) (largest (drop (i + 1) ys))
+unfolding largest
+largest-next ys i most l = rw (drop-cons ys i 0 l, add-one i) (sym (larger-most most (getD ys i 0) (largest (drop (suc i) ys))))
+
+pub largest-end : (ys : List ℕ) (i most : ℕ) → length ys ≤ i → larger most (largest (drop i ys)) ≡ most
+unfolding largest
+largest-end ys i most l = rw (drop-of-length-le ys {i = i} l, le-ltb most 0 (omega arith))
+
+-- where the largest is below m, no observation is m or more
+pub largest-inside : (m : ℕ) (ys : List ℕ) → largest ys < m → firstOutside m ys ≡ none
+unfolding largest firstOutside
+largest-inside m [] h = refl
+largest-inside m (y ∷ ys) h = test (ltb y (largest ys))
+    (λ q. let l : largest ys < m = rw q at h in rw (lt-leb m y (omega (arith, ltb-true y (largest ys) q)), largest-inside m ys l))
+    (λ q. let l : y < m = rw q at h in rw (lt-leb m y l, largest-inside m ys (omega (arith, ltb-false y (largest ys) q))))
 
 -- ---- a step
 

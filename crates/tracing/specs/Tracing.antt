@@ -23,6 +23,14 @@ unfoldable pub firstOutside : ℕ → List ℕ → Option ℕ
 firstOutside m [] = none
 firstOutside m (y ∷ ys) = pick (leb m y) (some 0) (later (firstOutside m ys))
 
+abbrev pub larger : ℕ → ℕ → ℕ
+larger x y = pick (ltb x y) y x
+
+-- The largest of a list, 0 of none.
+unfoldable pub largest : List ℕ → ℕ
+largest [] = 0
+largest (y ∷ ys) = larger y (largest ys)
+
 -- 13, its place the index of the first such observation.
 abbrev pub labelsThen : Option ℕ → Outcome → Outcome
 labelsThen (some i) next = refused 13 i

@@ -14,7 +14,7 @@ ghost use Rattle.file.specs.Answers.{checkedOutcome};
 ghost use Rattle.file.specs.Refusals.{onward, laid};
 ghost use Rattle.table.specs.Table.{look};
 ghost use Rattle.tracing.specs.Answers.{rideOutcome, tracedOutcome, stepCourse, courseOf};
-ghost use Rattle.tracing.specs.Tracing.{firstOutside};
+ghost use Rattle.tracing.specs.Tracing.{firstOutside, largest};
 ghost use Rattle.tracing.specs.Promise.{TracePromise};
 
 // All observations traced; or stopped at the first without an edge.
@@ -28,7 +28,8 @@ pub enum Traced {
 pub fn trace(file: &[u8], observations: &[u8], colours: &mut [u8]) -> Traced
     ensures { λ r. ⌜ TracePromise large (now (file .entry)) (now (observations .entry)) (now (colours .entry)) r (now (colours .exit)) ⌝ }
 {
-    let answer = file::check(file);
+    let mut table = table::empty();
+    let answer = table::read(&mut table, file);
     let Checked::Accepted(reading) = answer else {
         return passed_on(answer);
     };
@@ -43,8 +44,6 @@ pub fn trace(file: &[u8], observations: &[u8], colours: &mut [u8]) -> Traced
     if outside < count {
         return refused(Kind::Observation, outside);
     }
-    let mut table = table::empty();
-    table::fill(&mut table, file, reading);
     let hues = table::colours_of(file, reading);
     let start = reading.start;
     ride_through(&table, &hues, start, observations, colours)
@@ -76,6 +75,17 @@ fn wide(x: u8) -> usize
 fn first_outside(m: usize, observations: &[u8]) -> usize
     ensures { λ r. ⌜ firstOutside m (now (observations .entry)) ≡ pick (ltb r (length (now (observations .entry)))) (some r) none ⌝ }
 {
+    // The largest is found many at a time, a first one only one by one.
+    if wide(largest(observations)) < m {
+        return observations.len();
+    }
+    sought_outside(m, observations)
+}
+
+// The same, one by one.
+fn sought_outside(m: usize, observations: &[u8]) -> usize
+    ensures { λ r. ⌜ firstOutside m (now (observations .entry)) ≡ pick (ltb r (length (now (observations .entry)))) (some r) none ⌝ }
+{
     let mut i = 0;
     while i < observations.len() {
         if m <= wide(observations[i]) {
@@ -84,6 +94,22 @@ fn first_outside(m: usize, observations: &[u8]) -> usize
         i += 1;
     }
     i
+}
+
+// The largest of the values, 0 if there is none. It never leaves early, so that the compiler can take many values at a time.
+fn largest(values: &[u8]) -> u8
+    ensures { λ r. ⌜ r ≡ largest (now (values .entry)) ⌝ }
+{
+    let mut most = 0;
+    let mut i = 0;
+    while i < values.len() {
+        let value = values[i];
+        if most < value {
+            most = value;
+        }
+        i += 1;
+    }
+    most
 }
 
 // A ride in progress: the current state and the observations taken.

@@ -25,32 +25,24 @@ is-read c = reading-is large (now (c .args .file)) (c .args .reading) (c .pre .0
 
 -- the names at the end are the filter's
 ended : (c : tie.After-settled) →
-    take (c .before .before .before .before .before .before .before .before .before .before .args .reading .states) (c .settled .result .last .names) ≡ reduce (filterIn large (now (c .before .before .before .before .before .before .before .before .before .before .args .file))) .names
+    take (c .before .before .before .before .before .before .before .args .reading .states) (c .settled .result .last .names) ≡ reduce (filterIn large (now (c .before .before .before .before .before .before .before .args .file))) .names
 ended c =
-    let start = c .before .before .before .before .before .before .before .before .before .before in
+    let start = c .before .before .before .before .before .before .before in
     let a = start .args in
-    let table = c .before .before .before .before .fill in
     let colours = c .before .before .before .colours-of in
     c .settled .ensures .1 .1 .0
-    ∙ ap (λ (Q : Classes). Q .names) (reduce-is (now (a .file)) (a .reading) (is-read start) (table .last .0) (colours .result) (table .ensures .0) (colours .ensures .0))
-
-empty-requires : tie.Need-empty-requires
-empty-requires c κs = search needs
-
-fill-requires : tie.Need-fill-requires
-fill-requires c κs = (is-read (c .before .before .before .before .before) .answer, c .before .empty .ensures .0)
+    ∙ ap (λ (Q : Classes). Q .names) (reduce-is (now (a .file)) (a .reading) (is-read start) (now (a .table)) (colours .result) (start .pre .1) (colours .ensures .0))
 
 colours-of-requires : tie.Need-colours-of-requires
-colours-of-requires c κs = is-read (c .before .before .before .before .before .before) .answer
+colours-of-requires c κs = search needs
 
 settled-requires : tie.Need-settled-requires
 settled-requires c κs =
-    let start = c .before .before .before .before .before .before .before .before .before in
+    let start = c .before .before .before .before .before .before in
     let a = start .args in
     let is = is-read start in
-    let table = c .before .before .before .fill in
     let colours = c .before .before .colours-of in
-    let inside = within (now (a .file)) (a .reading) is (table .last .0) (colours .result) (table .ensures .0) (colours .ensures .0) in (
+    let inside = within (now (a .file)) (a .reading) is (now (a .table)) (colours .result) (start .pre .1) (colours .ensures .0) in (
       some-state (now (a .file)) (a .reading) is,
       few-states (now (a .file)) (a .reading) is,
       few-labels (now (a .file)) (a .reading) is,
@@ -60,14 +52,13 @@ settled-requires c κs =
 
 merged-requires : tie.Need-merged-requires
 merged-requires c κs =
-    let start = c .before .before .before .before .before .before .before .before .before .before .before .before .before .before .before .before .before in
-    let a = start .args in
-    let table = c .before .before .before .before .before .before .before .before .before .before .before .fill in
-    let colours = c .before .before .before .before .before .before .before .before .before .before .colours-of in
     let end = c .before .before .before .before .before .before .before in
-    let bytes : Bytes (now (a .file)) = λ i. omega (arith, c .before .before .before .before .before .before .before .before .before .before .before .before .before .before .before .before .shared-slice-known .given i) in
-    foldable (now (a .file)) (a .reading) (is-read start) (table .last .0) (colours .result) (table .ensures .0) (colours .ensures .0) _ (ended end) _ _ bytes (table .ensures .1)
-    (colours .ensures .1) (end .settled .ensures .1 .0) (start .pre .1) (start .pre .2)
+    let start = end .before .before .before .before .before .before .before in
+    let a = start .args in
+    let colours = end .before .before .before .colours-of in
+    let bytes : Bytes (now (a .file)) = λ i. omega (arith, end .before .before .before .before .before .before .shared-slice-known .given i) in
+    foldable (now (a .file)) (a .reading) (is-read start) (now (a .table)) (colours .result) (start .pre .1) (colours .ensures .0) _ (ended end) _ _ bytes (start .pre .2)
+    (colours .ensures .1) (end .settled .ensures .1 .0) (start .pre .3) (start .pre .4)
 
 wide-requires : tie.Need-wide-requires
 wide-requires c κs = search needs
@@ -80,20 +71,20 @@ same-length-2 c = search needs
 
 returns : tie.Need-returns
 returns c =
-    let start = c .before .before .before .before .before .before .before .before .before .before .before .before .before .before .before .before .before .before .before .before .before .before .before in
-    let a = start .args in
-    let table = c .before .before .before .before .before .before .before .before .before .before .before .before .before .before .before .before .before .fill in
-    let colours = c .before .before .before .before .before .before .before .before .before .before .before .before .before .before .before .before .colours-of in
-    let made = c .before .before .before .before .before .merged .ensures in
     let end = c .before .before .before .before .before .before .before .before .before .before .before .before .before in
+    let start = end .before .before .before .before .before .before .before in
+    let a = start .args in
+    let T = now (a .table) in
+    let colours = end .before .before .before .colours-of in
+    let made = c .before .before .before .before .before .merged .ensures in
     let settled = end .settled .ensures in
     let is = is-read start in
     let s = now (a .file) in (
-      counts-are s (a .reading) is (table .last .0) (colours .result) (table .ensures .0) (colours .ensures .0) _ (ended end) _ _ _ _ (made .1 .1 .0) (settled .0)
+      counts-are s (a .reading) is T (colours .result) (start .pre .1) (colours .ensures .0) _ (ended end) _ _ _ _ (made .1 .1 .0) (settled .0)
           (c .wide .ensures ∙ settled .1 .1 .1) (made .1 .1 .1),
       (
-        made .0 ∙ ap (λ (F : Filter). laid (written large F) (now (a .answer))) (filter-is s (a .reading) is (table .last .0) (colours .result) (table .ensures .0) (colours .ensures .0) _ (ended end)),
-        made .1 .0 ∙ ap (λ (l : List ℕ). laid l (now (a .classes))) (list-is s (a .reading) is (table .last .0) (colours .result) (table .ensures .0) (colours .ensures .0) _ (ended end)),
+        made .0 ∙ ap (λ (F : Filter). laid (written large F) (now (a .answer))) (filter-is s (a .reading) is T (colours .result) (start .pre .1) (colours .ensures .0) _ (ended end)),
+        made .1 .0 ∙ ap (λ (l : List ℕ). laid l (now (a .classes))) (list-is s (a .reading) is T (colours .result) (start .pre .1) (colours .ensures .0) _ (ended end)),
       ),
     )
 
@@ -101,8 +92,6 @@ pub fold-spec : {M : Type 1} → statement M
 fold-spec =
     tie.close
     (tie.spec
-    empty-requires
-    fill-requires
     colours-of-requires
     settled-requires
     merged-requires

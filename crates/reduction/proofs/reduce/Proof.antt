@@ -21,29 +21,32 @@ use Rattle.reduction.proofs.reduce.Tie as tie
 
 -- ---- the places of the code, back to the start
 
-abbrev started : tie.After-check → tie.Start
-started c = c .before .before .before .before
+abbrev started : tie.After-read → tie.Start
+started c = c .before .before .before .before .before .before
 
-abbrev checked₁ : tie.After-known-told → tie.After-check
-checked₁ c = c .before .before .before
+abbrev read₁ : tie.After-known-told → tie.After-read
+read₁ c = c .before .before .before
 
-abbrev file : tie.After-check → List ℕ
+abbrev file : tie.After-read → List ℕ
 file c = now (started c .args .file)
 
-abbrev answer : tie.After-check → List ℕ
+abbrev answer : tie.After-read → List ℕ
 answer c = now (started c .args .answer)
 
-abbrev classes : tie.After-check → List ℕ
+abbrev classes : tie.After-read → List ℕ
 classes c = now (started c .args .classes)
 
 abbrev reading : tie.After-known-told → Reading
 reading c = c .before .checked .given .0 .0
 
-is-read : (c : tie.After-known-told) → ReadIs large (file (checked₁ c)) (reading c)
-is-read c = let k = checked₁ c in read-is large (file k) (k .check .result) (k .check .ensures) (reading c) (c .before .checked .given .1)
+is-read : (c : tie.After-known-told) → ReadIs large (file (read₁ c)) (reading c)
+is-read c = let k = read₁ c in read-is large (file k) (k .read .result) (k .read .ensures .0) (reading c) (c .before .checked .given .1)
 
-check-requires : tie.Need-check-requires
-check-requires c κs = search needs
+empty-requires : tie.Need-empty-requires
+empty-requires c κs = search needs
+
+read-requires : tie.Need-read-requires
+read-requires c κs = search needs
 
 enum-known-checked : tie.Need-enum-known-checked
 enum-known-checked c = search needs
@@ -58,7 +61,7 @@ returns : tie.Need-returns
 returns c =
     let k = c .before .before .before in
     let is = c .before .enum-told .given .1 in
-    reduce-refused large (file k) (answer k) (classes k) (c .before .enum-told .given .0 .0) (c .passed-on .result) (sym (k .check .ensures) ∙ ap checkedOutcome is)
+    reduce-refused large (file k) (answer k) (classes k) (c .before .enum-told .given .0 .0) (c .passed-on .result) (sym (k .read .ensures .0) ∙ ap checkedOutcome is)
     (c .passed-on .ensures ∙ ap (λ o. onward (checkedOutcome o) (accepted (0 ∷ 0 ∷ 0 ∷ 0 ∷ []))) is)
 
 refused-requires : tie.Need-refused-requires
@@ -67,7 +70,7 @@ refused-requires c κs = search needs
 returns-2 : tie.Need-returns-2
 returns-2 c =
     let told = c .before .before in
-    let k = checked₁ told in
+    let k = read₁ told in
     rw (c .refused .ensures) (reduce-short large (file k) (answer k) (classes k) _ (is-read told .answer) (c .before .if1 .taken))
 
 refused-requires-2 : tie.Need-refused-requires-2
@@ -76,12 +79,16 @@ refused-requires-2 c κs = search needs
 returns-3 : tie.Need-returns-3
 returns-3 c =
     let told = c .before .before .before .before in
-    let k = checked₁ told in
+    let k = read₁ told in
     let is = is-read told in
     rw (c .refused2 .ensures) (reduce-few large (file k) (answer k) (classes k) _ (is .answer) (c .before .before .before .if1 .left) (omega (arith, c .before .if2 .taken, is .states-are)))
 
 fold-requires : tie.Need-fold-requires
-fold-requires c κs = let told = c .before .before .before .before .before in (is-read told .answer, c .before .before .before .before .if1 .left, c .before .before .if2 .left)
+fold-requires c κs =
+    let told = c .before .before .before .before .before .before in
+    let read = read₁ told .read .ensures in
+    let is = is-read told in
+    (is .answer, read .1 .0 _ (is .answer), read .1 .1, c .before .before .before .before .before .if1 .left, c .before .before .before .if2 .left)
 
 same-length : tie.Need-same-length
 same-length c = search needs
@@ -92,17 +99,18 @@ same-length-2 c = search needs
 returns-4 : tie.Need-returns-4
 returns-4 c =
     let fold = c .before .before .before .before .fold in
-    let told = c .before .before .before .before .before .before .before .before .before .before in
-    let k = checked₁ told in
+    let told = c .before .before .before .before .before .before .before .before .before .before .before in
+    let k = read₁ told in
     let is = is-read told in
-    reduce-folded large (file k) (answer k) (classes k) _ (is .answer) (c .before .before .before .before .before .before .before .before .before .if1 .left) (omega (arith, c .before .before .before .before .before .before .before .if2 .left, is .states-are)) (fold .result)
-    (fold .last .1 .1 .0) (fold .last .1 .1 .1 .0) (fold .ensures .0) (fold .ensures .1 .0) (fold .ensures .1 .1)
+    reduce-folded large (file k) (answer k) (classes k) _ (is .answer) (c .before .before .before .before .before .before .before .before .before .before .if1 .left) (omega (arith, c .before .before .before .before .before .before .before .before .if2 .left, is .states-are)) (fold .result)
+    (fold .last .1 .1 .1 .0) (fold .last .1 .1 .1 .1 .0) (fold .ensures .0) (fold .ensures .1 .0) (fold .ensures .1 .1)
 
 pub reduce-spec : {M : Type 1} → statement M
 reduce-spec =
     tie.close
     (tie.spec
-    check-requires
+    empty-requires
+    read-requires
     enum-known-checked
     enum-told
     passed-on-requires

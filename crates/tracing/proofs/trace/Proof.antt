@@ -28,39 +28,39 @@ use Rattle.tracing.proofs.trace.Tie as tie
 
 -- ---- the places of the code, back to the start
 
-abbrev started : tie.After-check → tie.Start
-started c = c .before .before .before .before
+abbrev started : tie.After-read → tie.Start
+started c = c .before .before .before .before .before .before
 
-abbrev checked₁ : tie.After-known-told → tie.After-check
-checked₁ c = c .before .before .before
+abbrev read₁ : tie.After-known-told → tie.After-read
+read₁ c = c .before .before .before
 
-abbrev file : tie.After-check → List ℕ
+abbrev file : tie.After-read → List ℕ
 file c = now (started c .args .file)
 
-abbrev observations : tie.After-check → List ℕ
+abbrev observations : tie.After-read → List ℕ
 observations c = now (started c .args .observations)
 
-abbrev room : tie.After-check → List ℕ
+abbrev room : tie.After-read → List ℕ
 room c = now (started c .args .colours)
 
 abbrev reading : tie.After-known-told → Reading
 reading c = c .before .answer .given .0 .0
 
-is-read : (c : tie.After-known-told) → ReadIs large (file (checked₁ c)) (reading c)
-is-read c = let k = checked₁ c in read-is large (file k) (k .check .result) (k .check .ensures) (reading c) (c .before .answer .given .1)
+is-read : (c : tie.After-known-told) → ReadIs large (file (read₁ c)) (reading c)
+is-read c = let k = read₁ c in read-is large (file k) (k .read .result) (k .read .ensures .0) (reading c) (c .before .answer .given .1)
 
 -- the rooms are long enough
-roomy : (c : tie.Else2) → ltb 65535 (length (observations (checked₁ (c .before .before)))) || ltb (length (room (checked₁ (c .before .before)))) (length (observations (checked₁ (c .before .before))) + 1) ≡ false
+roomy : (c : tie.Else2) → ltb 65535 (length (observations (read₁ (c .before .before)))) || ltb (length (room (read₁ (c .before .before)))) (length (observations (read₁ (c .before .before))) + 1) ≡ false
 roomy c = rw (le-ltb _ _ (c .before .if1 .left), le-ltb _ _ (c .if2 .left))
 
 -- what the labels' test found, by the file's own number of labels
-outside : (c : tie.After-first-outside) → firstOutside (labelsIn large (file (checked₁ (c .before .before .before)))) (observations (checked₁ (c .before .before .before)))
-    ≡ pick (ltb (c .first-outside .result) (length (observations (checked₁ (c .before .before .before))))) (some (c .first-outside .result)) none
+outside : (c : tie.After-first-outside) → firstOutside (labelsIn large (file (read₁ (c .before .before .before)))) (observations (read₁ (c .before .before .before)))
+    ≡ pick (ltb (c .first-outside .result) (length (observations (read₁ (c .before .before .before))))) (some (c .first-outside .result)) none
 outside c =
     let told = c .before .before .before in
-    ap (λ (m : ℕ). firstOutside m (observations (checked₁ told))) (sym (is-read told .labels-are)) ∙ c .first-outside .ensures
+    ap (λ (m : ℕ). firstOutside m (observations (read₁ told))) (sym (is-read told .labels-are)) ∙ c .first-outside .ensures
 
-inside : (c : tie.Else3) → firstOutside (labelsIn large (file (checked₁ (c .before .before .before .before)))) (observations (checked₁ (c .before .before .before .before))) ≡ none
+inside : (c : tie.Else3) → firstOutside (labelsIn large (file (read₁ (c .before .before .before .before)))) (observations (read₁ (c .before .before .before .before))) ≡ none
 inside c = outside (c .before) ∙ rw (le-ltb _ _ (c .if3 .left))
 
 start-of : (s : List ℕ) (n : ℕ) → n ≡ startIn large s → n ≡ filterIn large s .start
@@ -69,8 +69,11 @@ start-of s n h = h
 
 -- ---- the needs
 
-check-requires : tie.Need-check-requires
-check-requires c κs = search needs
+empty-requires : tie.Need-empty-requires
+empty-requires c κs = search needs
+
+read-requires : tie.Need-read-requires
+read-requires c κs = search needs
 
 enum-known-answer : tie.Need-enum-known-answer
 enum-known-answer c = search needs
@@ -85,7 +88,7 @@ returns : tie.Need-returns
 returns c =
     let k = c .before .before .before in
     let is = c .before .enum-told .given .1 in
-    trace-refused large (file k) (observations k) (room k) (c .before .enum-told .given .0 .0) (c .passed-on .result) (sym (k .check .ensures) ∙ ap checkedOutcome is)
+    trace-refused large (file k) (observations k) (room k) (c .before .enum-told .given .0 .0) (c .passed-on .result) (sym (k .read .ensures .0) ∙ ap checkedOutcome is)
     (c .passed-on .ensures ∙ ap (λ o. onward (checkedOutcome o) (rideOutcome none)) is)
 
 refused-requires : tie.Need-refused-requires
@@ -94,7 +97,7 @@ refused-requires c κs = search needs
 returns-2 : tie.Need-returns-2
 returns-2 c =
     let told = c .before .before in
-    let k = checked₁ told in
+    let k = read₁ told in
     rw (c .refused .ensures) (trace-short large (file k) (observations k) (room k) _ (is-read told .answer) (rw (lt-ltb _ _ (c .before .if1 .taken))))
 
 add-if2 : tie.Need-add-if2
@@ -106,7 +109,7 @@ refused-requires-2 c κs = search needs
 returns-3 : tie.Need-returns-3
 returns-3 c =
     let told = c .before .before .before in
-    let k = checked₁ told in
+    let k = read₁ told in
     rw (c .refused2 .ensures)
     (trace-short large (file k) (observations k) (room k) _ (is-read told .answer) (rw (le-ltb _ _ (c .before .before .if1 .left), lt-ltb _ _ (c .before .if2 .taken))))
 
@@ -120,29 +123,23 @@ returns-4 : tie.Need-returns-4
 returns-4 c =
     let found = c .before .before in
     let told = found .before .before .before in
-    let k = checked₁ told in
+    let k = read₁ told in
     rw (c .refused3 .ensures)
     (trace-label large (file k) (observations k) (room k) _ (is-read told .answer) (roomy (found .before)) (found .first-outside .result)
     (outside found ∙ rw (lt-ltb _ _ (c .before .if3 .taken))))
 
-empty-requires : tie.Need-empty-requires
-empty-requires c κs = search needs
-
-fill-requires : tie.Need-fill-requires
-fill-requires c κs = (is-read (c .before .before .before .before .before .before) .answer, c .before .empty .ensures .0)
-
 colours-of-requires : tie.Need-colours-of-requires
-colours-of-requires c κs = is-read (c .before .before .before .before .before .before .before) .answer
+colours-of-requires c κs = is-read (c .before .before .before .before) .answer
 
 slice-aggregate-ride-through : tie.Need-slice-aggregate-ride-through
 slice-aggregate-ride-through c = search needs
 
 ride-through-requires : tie.Need-ride-through-requires
 ride-through-requires c κs =
-    let e3 = c .before .before .before .before .before .before .before in
+    let e3 = c .before .before .before .before in
     let e2 = e3 .before .before in
     let told = e2 .before .before in
-    let k = checked₁ told in
+    let k = read₁ told in
     let is = is-read told in (
       omega (arith, is .start-is, is .sound .start-in, states-high large large-usable (file k)),
       c .before .before .before .colours-of .ensures .1,
@@ -159,16 +156,15 @@ unfolding shown stops
 returns-5 c =
     let ride = c .before .before in
     let hues = ride .before .before .before .before in
-    let table = hues .before in
-    let e3 = table .before .before .before in
+    let e3 = hues .before in
     let e2 = e3 .before .before in
     let told = e2 .before .before in
-    let k = checked₁ told in
+    let k = read₁ told in
     let is = is-read told in
     let F = filterIn large (file k) in
     let ys = observations k in
     let from-start : reading told .start ≡ F .start = start-of (file k) (reading told .start) (is .start-is) in
-    let by-table = table .fill .ensures .0 in
+    let by-table = k .read .ensures .1 .0 _ (is .answer) in
     let by-hues = hues .colours-of .ensures .0 in
     trace-ridden large (file k) ys (room k) _ (is .answer) (roomy e2) (ride .ride-through .result) (ride .ride-through .last .1 .1 .1 .1 .0) (inside e3)
     (ride .ride-through .ensures .0 ∙ ap₂ (λ (next : ℕ → ℕ → Option ℕ) (s : ℕ). rideOutcome (halted next s ys)) by-table from-start)
@@ -180,7 +176,8 @@ pub trace-spec : {M : Type 1} → statement M
 trace-spec =
     tie.close
     (tie.spec
-    check-requires
+    empty-requires
+    read-requires
     enum-known-answer
     enum-told
     passed-on-requires
@@ -193,8 +190,6 @@ trace-spec =
     first-outside-requires
     refused-requires-3
     returns-4
-    empty-requires
-    fill-requires
     colours-of-requires
     slice-aggregate-ride-through
     ride-through-requires

@@ -1,13 +1,24 @@
 -- `file::edges::test` meets its contract: each way out has passed the tests before it. Assumes nothing.
 use mathlib.Core.Path.{_≡_}
-use native.Mathlib.Nat.{le-antisymm}
-use native.Mathlib.Omega.{arith}
+use Prim.Native.Nat.{_+_, _*_}
 use borrow.Author.Needs.{needs}
 use borrow.Author.Tests.{lt-ltb, le-ltb, eq-eqb, ne-eqb}
+use lib.Dec.{eqb, ltb}
 use Rattle.meaning.specs.Filter.{inside, comesBefore, samePlace}
 use Rattle.file.specs.Refusals.{edgeFault}
+use Rattle.file.specs.Code.{edgeOf}
+use Rattle.file.proofs.Tests.{before-rank, place-rank}
 use Rattle.file.proofs.edges.test.Statement.{statement}
 use Rattle.file.proofs.edges.test.Tie as tie
+
+-- the order and the place of the two edges, by the numbers that are compared
+by-rank : (c : tie.Start) → comesBefore (edgeOf (c .args .edge)) (edgeOf (c .args .before))
+    ≡ ltb (c .args .edge .source * 256 + c .args .edge .label) (c .args .before .source * 256 + c .args .before .label)
+by-rank c = before-rank (edgeOf (c .args .edge)) (edgeOf (c .args .before)) (c .pre .3) (c .pre .1)
+
+place-by-rank : (c : tie.Start) → samePlace (edgeOf (c .args .edge)) (edgeOf (c .args .before))
+    ≡ eqb (c .args .edge .source * 256 + c .args .edge .label) (c .args .before .source * 256 + c .args .before .label)
+place-by-rank c = place-rank (edgeOf (c .args .edge)) (edgeOf (c .args .before)) (c .pre .3) (c .pre .1)
 
 faulty-requires : tie.Need-faulty-requires
 faulty-requires c κs = search needs
@@ -43,73 +54,52 @@ returns-4 c =
     let e1 = e2 .before in
     simp (lt-ltb _ _ (e1 .if1 .left), lt-ltb _ _ (e2 .if2 .left), lt-ltb _ _ (e3 .if3 .left), eq-eqb _ _ (c .if4 .taken))
 
+mul-here : tie.Need-mul-here
+mul-here c = search needs
+
+add-here : tie.Need-add-here
+add-here c = search needs
+
+mul-there : tie.Need-mul-there
+mul-there c = search needs
+
+add-there : tie.Need-add-there
+add-there c = search needs
+
 faulty-requires-4 : tie.Need-faulty-requires-4
 faulty-requires-4 c κs = search needs
 
 returns-5 : tie.Need-returns-5
-unfolding edgeFault inside comesBefore
+unfolding edgeFault inside
 returns-5 c =
     let e4 = c .before .before in
     let e3 = e4 .before in
     let e2 = e3 .before in
     let e1 = e2 .before in
-    simp (c .faulty4 .ensures, lt-ltb _ _ (e1 .if1 .left), lt-ltb _ _ (e2 .if2 .left), lt-ltb _ _ (e3 .if3 .left), ne-eqb _ _ (e4 .if4 .left), lt-ltb _ _ (c .before .if5 .taken))
+    simp (c .faulty4 .ensures, lt-ltb _ _ (e1 .if1 .left), lt-ltb _ _ (e2 .if2 .left), lt-ltb _ _ (e3 .if3 .left), ne-eqb _ _ (e4 .if4 .left), by-rank (e1 .before), lt-ltb _ _ (c .before .if5 .taken))
+
+faulty-requires-5 : tie.Need-faulty-requires-5
+faulty-requires-5 c κs = search needs
 
 returns-6 : tie.Need-returns-6
-unfolding edgeFault inside comesBefore samePlace
+unfolding edgeFault inside
 returns-6 c =
+    let e5 = c .before .before in
+    let e4 = e5 .before in
+    let e3 = e4 .before in
+    let e2 = e3 .before in
+    let e1 = e2 .before in
+    simp (c .faulty5 .ensures, lt-ltb _ _ (e1 .if1 .left), lt-ltb _ _ (e2 .if2 .left), lt-ltb _ _ (e3 .if3 .left), ne-eqb _ _ (e4 .if4 .left), by-rank (e1 .before), le-ltb _ _ (e5 .if5 .left), place-by-rank (e1 .before), eq-eqb _ _ (c .before .if6 .taken))
+
+returns-7 : tie.Need-returns-7
+unfolding edgeFault inside
+returns-7 c =
     let e5 = c .before in
     let e4 = e5 .before in
     let e3 = e4 .before in
     let e2 = e3 .before in
     let e1 = e2 .before in
-    let a = e1 .before .args in
-    let apart : a .edge .source ≡ a .before .source → ⊥ = λ e. omega (arith, c .if6 .taken) in
-    simp (lt-ltb _ _ (e1 .if1 .left), lt-ltb _ _ (e2 .if2 .left), lt-ltb _ _ (e3 .if3 .left), ne-eqb _ _ (e4 .if4 .left), le-ltb _ _ (e5 .if5 .left), ne-eqb _ _ apart)
-
-faulty-requires-5 : tie.Need-faulty-requires-5
-faulty-requires-5 c κs = search needs
-
-returns-7 : tie.Need-returns-7
-unfolding edgeFault inside comesBefore
-returns-7 c =
-    let e6 = c .before .before in
-    let e5 = e6 .before in
-    let e4 = e5 .before in
-    let e3 = e4 .before in
-    let e2 = e3 .before in
-    let e1 = e2 .before in
-    let same = le-antisymm (e6 .if6 .left) (e5 .if5 .left) in
-    simp (c .faulty5 .ensures, lt-ltb _ _ (e1 .if1 .left), lt-ltb _ _ (e2 .if2 .left), lt-ltb _ _ (e3 .if3 .left), ne-eqb _ _ (e4 .if4 .left), le-ltb _ _ (e5 .if5 .left), eq-eqb _ _ same, lt-ltb _ _ (c .before .if7 .taken))
-
-faulty-requires-6 : tie.Need-faulty-requires-6
-faulty-requires-6 c κs = search needs
-
-returns-8 : tie.Need-returns-8
-unfolding edgeFault inside comesBefore samePlace
-returns-8 c =
-    let e7 = c .before .before in
-    let e6 = e7 .before in
-    let e5 = e6 .before in
-    let e4 = e5 .before in
-    let e3 = e4 .before in
-    let e2 = e3 .before in
-    let e1 = e2 .before in
-    let same = le-antisymm (e6 .if6 .left) (e5 .if5 .left) in
-    simp (c .faulty6 .ensures, lt-ltb _ _ (e1 .if1 .left), lt-ltb _ _ (e2 .if2 .left), lt-ltb _ _ (e3 .if3 .left), ne-eqb _ _ (e4 .if4 .left), le-ltb _ _ (e5 .if5 .left), eq-eqb _ _ same, le-ltb _ _ (e7 .if7 .left), eq-eqb _ _ (c .before .if8 .taken))
-
-returns-9 : tie.Need-returns-9
-unfolding edgeFault inside comesBefore samePlace
-returns-9 c =
-    let e7 = c .before in
-    let e6 = e7 .before in
-    let e5 = e6 .before in
-    let e4 = e5 .before in
-    let e3 = e4 .before in
-    let e2 = e3 .before in
-    let e1 = e2 .before in
-    let same = le-antisymm (e6 .if6 .left) (e5 .if5 .left) in
-    simp (lt-ltb _ _ (e1 .if1 .left), lt-ltb _ _ (e2 .if2 .left), lt-ltb _ _ (e3 .if3 .left), ne-eqb _ _ (e4 .if4 .left), le-ltb _ _ (e5 .if5 .left), eq-eqb _ _ same, le-ltb _ _ (e7 .if7 .left), ne-eqb _ _ (c .if8 .left))
+    simp (lt-ltb _ _ (e1 .if1 .left), lt-ltb _ _ (e2 .if2 .left), lt-ltb _ _ (e3 .if3 .left), ne-eqb _ _ (e4 .if4 .left), by-rank (e1 .before), le-ltb _ _ (e5 .if5 .left), place-by-rank (e1 .before), ne-eqb _ _ (c .if6 .left))
 
 pub test-spec : {M : Type 1} → statement M
 test-spec =
@@ -122,11 +112,12 @@ test-spec =
     faulty-requires-3
     returns-3
     returns-4
+    mul-here
+    add-here
+    mul-there
+    add-there
     faulty-requires-4
     returns-5
-    returns-6
     faulty-requires-5
-    returns-7
-    faulty-requires-6
-    returns-8
-    returns-9)
+    returns-6
+    returns-7)

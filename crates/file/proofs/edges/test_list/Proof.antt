@@ -4,13 +4,14 @@ use mathlib.Core.Path.{_≡_, ap, sym, _∙_}
 use mathlib.Core.Bool.{false}
 use mathlib.Core.List.{_∷_}
 use mathlib.Core.Option.{none}
-use Prim.Native.Nat.{_+_, _*_, _-_, _/_, _≤_}
+use Prim.Native.Nat.{_+_, _*_, _-_, _/_, _<_, _≤_}
 use native.Mathlib.Omega.{arith}
 use borrow.Author.Needs.{needs}
 use borrow.Author.Tests.{ne-eqb}
 use denote.Ref.{now}
-use lib.Dec.{eqb}
+use lib.Dec.{eqb, lit<}
 use lib.ListN.{length, drop}
+use Rattle.meaning.specs.Filter.{Edge}
 use Rattle.file.specs.Refusals.{firstFault, threes}
 use Rattle.file.specs.Code.{edgeOf, edgeBefore, faultOf}
 use Rattle.file.proofs.EdgeLists.{threes-cons, threes-end, fault-here, fault-next}
@@ -19,19 +20,28 @@ use Rattle.file.proofs.edges.test_list.Tie as tie
 
 abbrev Inv-loop : tie.InvT-loop
 Inv-loop edges n m e before₀ i₀ before i =
-    (i ≤ e) × (firstFault n m none 0 (threes edges) ≡ firstFault n m (edgeBefore (eqb i 0) before) i (threes (drop (3 * i) edges)))
+    (i ≤ e) × ((before .source < 256) × (before .label < 256))
+    × (firstFault n m none 0 (threes edges) ≡ firstFault n m (edgeBefore (eqb i 0) before) i (threes (drop (3 * i) edges)))
 
 abbrev μ-loop : tie.MeasureT-loop
 μ-loop edges n m e before₀ i₀ before i = e - i
 
 loop-holds : tie.Need-loop-holds Inv-loop μ-loop
-loop-holds c = search needs
+loop-holds c = (omega arith, (lit< tt, lit< tt), search needs)
 
 listed-requires : tie.Need-listed-requires Inv-loop μ-loop
 listed-requires c κs = omega arith
 
+-- the parts of a listed edge are bytes
+bytes : (c : tie.After-listed Inv-loop μ-loop) → (c .listed .result .source < 256) × (c .listed .result .label < 256)
+bytes c =
+    let byte = c .before .before .before .shared-slice-known .given in
+    let i = c .before .before .loop .i in
+    let is = c .listed .ensures in
+    (omega (arith, ap (λ (e : Edge). e .source) is, byte (3 * i)), omega (arith, ap (λ (e : Edge). e .label) is, byte (3 * i + 1)))
+
 test-requires : tie.Need-test-requires Inv-loop μ-loop
-test-requires c κs = search needs
+test-requires c κs = let before = c .before .before .loop .inv .1 in (before .0, before .1, bytes c .0, bytes c .1)
 
 enum-told : tie.Need-enum-told Inv-loop μ-loop
 enum-told c = search needs
@@ -50,7 +60,7 @@ returns c =
     threes-cons (now (a .edges)) (3 * loop .i) (omega arith) ∙ rw (c .before .before .before .listed .ensures) in
     ap faultOf (g .1)
     ∙ fault-here (a .n) (a .m) (loop .i) (edgeBefore (eqb (loop .i) 0) (loop .before)) edge rest _ (sym (ap faultOf (g .1)) ∙ c .before .before .test .ensures)
-    ∙ sym (loop .inv .1 ∙ rw here)
+    ∙ sym (loop .inv .2 ∙ rw here)
 
 add-i : tie.Need-add-i Inv-loop μ-loop
 add-i c = omega arith
@@ -70,7 +80,8 @@ loop-again c =
     let next : 3 * (loop .i + 1) ≡ 3 * loop .i + 3 = omega arith in
     let later : eqb (loop .i + 1) 0 ≡ false = ne-eqb (loop .i + 1) 0 (λ z. omega arith) in (
       omega arith,
-      loop .inv .1
+      bytes (c .before .before .before),
+      loop .inv .2
           ∙ rw (here, next, later) (fault-next (a .n) (a .m) (loop .i) (edgeBefore (eqb (loop .i) 0) (loop .before)) edge rest (sym (ap faultOf (g .1)) ∙ c .before .before .test .ensures)),
     )
 
@@ -80,7 +91,7 @@ returns-2 c =
     let loop = c .before .loop in
     let edges = now (c .before .before .before .args .edges) in
     let i : loop .i ≡ length edges / 3 = omega (arith, c .loop-test .left) in
-    sym (loop .inv .1 ∙ rw (threes-end edges (3 * loop .i) (omega arith)))
+    sym (loop .inv .2 ∙ rw (threes-end edges (3 * loop .i) (omega arith)))
 
 pub test-list-spec : {M : Type 1} → statement M
 test-list-spec =
