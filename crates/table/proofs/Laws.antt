@@ -8,57 +8,74 @@ use Prim.Native.Nat.{ℕ, zero, suc, _+_, _*_, _-_, _≤_, _<_}
 use native.Mathlib.Decide.{decLt, ℕ-discrete}
 use native.Mathlib.Omega.{arith}
 use lib.Dec.{eqb, ltb}
-use lib.ListN.{length, getD, set, drop, replicate, getD-replicate, List·getD-append, List·getD-eq-default}
+use lib.ListN.{length, getD, set, drop, replicate, List·getD-append, List·getD-eq-default}
 use lib.Seq.{getD-set-same, getD-set-other, getD-drop, getD-append-add}
 use borrow.Author.Tests.{lt-ltb, le-ltb, ltb-true, ltb-false, eq-eqb, ne-eqb}
-use Rattle.meaning.specs.Filter.{Edge, ascending}
+use Rattle.meaning.specs.Filter.{Edge, each, inside, ascending}
 use Rattle.meaning.specs.Trace.{target}
 use Rattle.meaning.specs.TraceLaws.{stands, target-snoc, target-before, target-fresh}
-use Rattle.meaning.specs.Cases.{test}
+use Rattle.meaning.specs.Cases.{test, and-left}
+use Rattle.file.specs.Refusals.{edgeFault, faultAt, firstFault}
+use Rattle.file.proofs.Tests.{fault-free}
 use Rattle.table.specs.Table.{entry, look, or, given}
 
-pub look-here : (T : List ℕ) (s y : ℕ) → s < 256 → y < 64 → look T s y ≡ entry (getD T (s * 64 + y) 0)
-unfolding look
-look-here T s y h k = rw (lt-ltb s 256 h, lt-ltb y 64 k)
+-- what is read past the end counts only there
+past : (T : List ℕ) (i d e : ℕ) → i < length T → getD T i d ≡ getD T i e
+past [] i d e h = absurd (omega arith)
+past (x ∷ xs) zero d e h = refl
+past (x ∷ xs) (suc i) d e h = past xs i d e (omega arith)
 
-look-out-state : (T : List ℕ) (s y : ℕ) → (s < 256 → ⊥) → look T s y ≡ none
+pub look-here : (T : List ℕ) (s y : ℕ) → s * 64 + y < length T → y < 64 → look T s y ≡ entry (getD T (s * 64 + y) 0)
 unfolding look
-look-out-state T s y h = rw (le-ltb s 256 (omega arith))
+look-here T s y h k = rw (lt-ltb y 64 k) (ap entry (past T (s * 64 + y) 65535 0 h))
 
-look-out-label : (T : List ℕ) (s y : ℕ) → s < 256 → (y < 64 → ⊥) → look T s y ≡ none
+look-label : (T : List ℕ) (s y : ℕ) → y < 64 → look T s y ≡ entry (getD T (s * 64 + y) 65535)
 unfolding look
-look-out-label T s y h k = rw (lt-ltb s 256 h, le-ltb y 64 (omega arith))
+look-label T s y k = rw (lt-ltb y 64 k)
 
-pub look-empty : look (replicate 16384 65535) ≡ target []
+look-out : (T : List ℕ) (s y : ℕ) → (y < 64 → ⊥) → look T s y ≡ none
+unfolding look
+look-out T s y k = rw (le-ltb y 64 (omega arith))
+
+blank : (k i : ℕ) → _≡_ {A = ℕ} (getD (replicate k 65535) i 65535) 65535
+blank zero i = refl
+blank (suc k) zero = refl
+blank (suc k) (suc i) = blank k i
+
+pub look-empty : (k : ℕ) → look (replicate k 65535) ≡ target []
 unfolding target
-look-empty = fun-ext λ s. fun-ext λ y. go s y (decLt s 256) (decLt y 64)
+look-empty k = fun-ext λ s. fun-ext λ y. go s y (decLt y 64)
   where
-    go : (s y : ℕ) → Dec (s < 256) → Dec (y < 64) → look (replicate 16384 65535) s y ≡ none
-    go s y (yes h) (yes k) = look-here (replicate 16384 65535) s y h k ∙ rw (getD-replicate {A = ℕ} 16384 (s * 64 + y) 65535 0 (omega arith))
-    go s y (yes h) (no k) = look-out-label (replicate 16384 65535) s y h k
-    go s y (no h) k = look-out-state (replicate 16384 65535) s y h
+    go : (s y : ℕ) → Dec (y < 64) → look (replicate k 65535) s y ≡ none
+    go s y (yes h) = look-label (replicate k 65535) s y h ∙ rw (blank k (s * 64 + y))
+    go s y (no h) = look-out (replicate k 65535) s y h
 
 -- ---- one entry stored
 
-module _ (T : List ℕ) (a b v : ℕ) (state : a < 256) (label : b < 64) where
+module _ (T : List ℕ) (a b v : ℕ) (state : a * 64 + b < length T) (label : b < 64) where
   abbrev stored : List ℕ
   stored = set T (a * 64 + b) v
 
-  pub look-stored : length T ≡ 16384 → look stored a b ≡ entry v
-  look-stored long = look-here stored a b state label ∙ ap entry (getD-set-same T (a * 64 + b) v 0 (omega arith))
+  pub look-stored : look stored a b ≡ entry v
+  look-stored = look-label stored a b label ∙ ap entry (getD-set-same T (a * 64 + b) v 65535 state)
 
   pub look-kept : (s y : ℕ) → (a ≡ s → b ≡ y → ⊥) → look stored s y ≡ look T s y
-  look-kept s y h = go (decLt s 256) (decLt y 64)
+  look-kept s y h = go (decLt y 64)
     where
-      go : Dec (s < 256) → Dec (y < 64) → look stored s y ≡ look T s y
-      go (yes p) (yes q) =
-          look-here stored s y p q ∙ ap entry (getD-set-other T (a * 64 + b) (s * 64 + y) v 0 (λ z. h (omega arith) (omega arith))) ∙ sym (look-here T s y p q)
-      go (yes p) (no q) = look-out-label stored s y p q ∙ sym (look-out-label T s y p q)
-      go (no p) q = look-out-state stored s y p ∙ sym (look-out-state T s y p)
+      go : Dec (y < 64) → look stored s y ≡ look T s y
+      go (yes q) = look-label stored s y q ∙ ap entry (getD-set-other T (a * 64 + b) (s * 64 + y) v 65535 (λ z. h (omega arith) (omega arith))) ∙ sym (look-label T s y q)
+      go (no q) = look-out stored s y q ∙ sym (look-out T s y q)
+
+-- an edge without a fault leaves a state of the filter
+pub source-low : (n m i : ℕ) (before : Option Edge) (e : Edge) → faultAt i (edgeFault n m before e) none ≡ none → e .source < n
+unfolding firstFault each inside
+source-low n m i before e h =
+    let all = fault-free n m i before (e ∷ []) h .all-inside in
+    ltb-true (e .source) n (and-left (ltb (e .source) n) _ (and-left (inside n m e) _ all))
 
 -- ---- one edge more
 
-module _ (T : List ℕ) (es : List Edge) (e : Edge) (rest : List Edge) (long : length T ≡ 16384) (source : e .source < 256) (label : e .label < 64) (to : e .target < 256)
+module _ (T : List ℕ) (es : List Edge) (e : Edge) (rest : List Edge) (source : e .source * 64 + e .label < length T) (label : e .label < 64) (to : e .target < 256)
     (is : look T ≡ target es) (order : ascending (es ++ (e ∷ rest)) ≡ true) where
   abbrev more : List ℕ
   more = set T (e .source * 64 + e .label) (e .target)
@@ -68,7 +85,7 @@ module _ (T : List ℕ) (es : List Edge) (e : Edge) (rest : List Edge) (long : l
 
   here : look more (e .source) (e .label) ≡ target (es ++ (e ∷ [])) (e .source) (e .label)
   here =
-      look-stored T (e .source) (e .label) (e .target) source label long
+      look-stored T (e .source) (e .label) (e .target) source label
       ∙ rw (lt-ltb (e .target) 256 to)
       (sym (target-snoc es e (e .source) (e .label) (target-fresh es e rest order) ∙ rw (eq-eqb (e .source) (e .source) refl, eq-eqb (e .label) (e .label) refl)))
 
@@ -114,12 +131,12 @@ module _ (next : ℕ → ℕ → Option ℕ) (from to : ℕ) where
       go s z (no a) b = else s z (λ u w. a u) ∙ rw (ne-eqb s to (λ u. a (sym u)))
 
 -- one label further, in a table where the labels before it are given
-module _ (T₀ T : List ℕ) (from to y : ℕ) (hf : from < 256) (ht : to < 256) (hy : y < 64) (so-far : look T ≡ given (look T₀) from to y) where
+module _ (T₀ T : List ℕ) (from to y : ℕ) (hf : from * 64 + y < length T) (ht : to * 64 + y < length T) (hy : y < 64) (so-far : look T ≡ given (look T₀) from to y) where
   -- the entries of label y are still those of the beginning
   same : (s : ℕ) → look T s y ≡ look T₀ s y
   same s = ap (λ (f : ℕ → ℕ → Option ℕ). f s y) so-far ∙ given-here (look T₀) from to y s
 
-  read : (s : ℕ) → s < 256 → entry (getD T (s * 64 + y) 0) ≡ look T₀ s y
+  read : (s : ℕ) → s * 64 + y < length T → entry (getD T (s * 64 + y) 0) ≡ look T₀ s y
   read s h = sym (look-here T s y h hy) ∙ same s
 
   pub give-kept : getD T (to * 64 + y) 0 < 256 → look T ≡ given (look T₀) from to (y + 1)
@@ -128,11 +145,11 @@ module _ (T₀ T : List ℕ) (from to y : ℕ) (hf : from < 256) (ht : to < 256)
       given-more (look T₀) from to y (look T) (same to ∙ rw (← own))
       (λ s z _. ap (λ (f : ℕ → ℕ → Option ℕ). f s z) so-far)
 
-  pub give-stored : length T ≡ 16384 → 256 ≤ getD T (to * 64 + y) 0 → look (set T (to * 64 + y) (getD T (from * 64 + y) 0)) ≡ given (look T₀) from to (y + 1)
-  give-stored long h =
+  pub give-stored : 256 ≤ getD T (to * 64 + y) 0 → look (set T (to * 64 + y) (getD T (from * 64 + y) 0)) ≡ given (look T₀) from to (y + 1)
+  give-stored h =
       let v = getD T (from * 64 + y) 0 in
       let lacks : none ≡ look T₀ to y = sym (rw (le-ltb _ _ h)) ∙ read to ht in
-      given-more (look T₀) from to y (look (set T (to * 64 + y) v)) (look-stored T to y v ht hy long ∙ read from hf ∙ rw (← lacks))
+      given-more (look T₀) from to y (look (set T (to * 64 + y) v)) (look-stored T to y v ht hy ∙ read from hf ∙ rw (← lacks))
       (λ s z other. look-kept T to y v ht hy s z other ∙ ap (λ (f : ℕ → ℕ → Option ℕ). f s z) so-far)
 
 -- ---- colours

@@ -12,10 +12,9 @@ use Rattle.meaning.specs.Pick.{pick}
 abbrev pub entry : ℕ → Option ℕ
 entry v = pick (ltb v 256) (some v) none
 
--- The edge of a state at a label. A state or a label outside the table has none, so that no two share an entry and none is looked
--- for behind the table's 16,384.
+-- The edge of a state at a label. A label past the 64 has none, so that no two share an entry; nor has a state past the table's end.
 unfoldable pub look : List ℕ → ℕ → ℕ → Option ℕ
-look table s y = pick (ltb s 256 && ltb y 64) (entry (getD table (s * 64 + y) 0)) none
+look table s y = pick (ltb y 64) (entry (getD table (s * 64 + y) 65535)) none
 
 -- The first of two edges, where there is one.
 abbrev pub or : Option ℕ → Option ℕ → Option ℕ

@@ -1,6 +1,6 @@
 -- `table::read` meets its contract: a refusal before the edges is the answer, and otherwise the first fault of the edges decides. An
 -- accepted file has none, so that the table has them all. Assumes nothing.
-use mathlib.Core.Path.{_≡_, ap, sym, _∙_}
+use mathlib.Core.Path.{_≡_, refl, ap, sym, _∙_}
 use mathlib.Core.List.{List}
 use mathlib.Core.Option.{none}
 use Prim.Native.Nat.{ℕ}
@@ -8,7 +8,6 @@ use native.Mathlib.Omega.{arith}
 use borrow.Author.Needs.{needs}
 use denote.Ref.{now}
 use lib.Dec.{lit≤}
-use lib.ListN.{length, length-replicate}
 use Rattle.meaning.specs.Cases.{clash}
 use Rattle.meaning.specs.Trace.{target, edge}
 use Rattle.file.specs.declared.Profile.{Profile}
@@ -29,7 +28,7 @@ use Rattle.table.proofs.read.Tie as tie
 -- ---- the places of the code, back to the start
 
 abbrev started : tie.After-headed → tie.Start
-started c = c .before .before .before
+started c = c .before .before .before .before
 
 abbrev headed₁ : tie.After-known-told → tie.After-headed
 headed₁ c = c .before .before .before
@@ -105,7 +104,7 @@ returns c =
     let why = c .enum-told .given .0 .0 in
     let is = ap checkedOutcome (c .enum-told .given .1) in
     let refused = head-refused large (file k) why (head k ∙ is) in
-    (is ∙ sym refused, (λ numbers h. refused-accepted (file k) why numbers refused h, ap length (started k .pre) ∙ length-replicate {A = ℕ} 16384 65535))
+    (is ∙ sym refused, (λ numbers h. refused-accepted (file k) why numbers refused h, refl))
 
 edges-begin-requires : tie.Need-edges-begin-requires
 edges-begin-requires c κs =
@@ -120,7 +119,8 @@ read-edges-requires c κs =
       rw (k .before .large .ensures) (lit≤ tt),
       c .edges-begin .ensures .1,
       omega (arith, is-headed known .count-is, count-high large large-usable (file k)),
-      started k .pre,
+      started k .pre .0,
+      omega (arith, is-headed known .states-are, started k .pre .1),
     )
 
 enum-known-verdict : tie.Need-enum-known-verdict
@@ -129,18 +129,24 @@ enum-known-verdict c = search needs
 enum-told-2 : tie.Need-enum-told-2
 enum-told-2 c = search needs
 
+same-length : tie.Need-same-length
+same-length c = c .before .before .before .before .read-edges .ensures .1 .1
+
 returns-2 : tie.Need-returns-2
 returns-2 c =
-    let done = c .before .before in
+    let done = c .before .before .before .before in
     let known = told done in
     let clear = fault done ∙ ap faultOf (c .enum-told2 .given .1) in (
       sym (check-faultless large (file (headed₁ known)) (reading known) (is-headed known) _ (begin done) clear),
       (filled done, done .read-edges .ensures .1 .1),
     )
 
+same-length-2 : tie.Need-same-length-2
+same-length-2 c = c .before .before .before .before .before .read-edges .ensures .1 .1
+
 returns-3 : tie.Need-returns-3
 returns-3 c =
-    let done = c .before .before .before in
+    let done = c .before .before .before .before .before in
     let known = told done in
     let found = fault done ∙ ap faultOf (c .before .verdict .given .1) in (
       sym (check-faulty large (file (headed₁ known)) (reading known) (is-headed known) _ (begin done) (c .before .verdict .given .0 .0) found),
@@ -160,5 +166,7 @@ read-spec =
     read-edges-requires
     enum-known-verdict
     enum-told-2
+    same-length
     returns-2
+    same-length-2
     returns-3)

@@ -1,6 +1,6 @@
 -- `table::read_edges` meets its contract. The invariant: the first fault of all edges is that of those not yet tested, behind the
 -- edge last read; and where there is no fault, the table looks up the edges read so far. Assumes nothing.
-use mathlib.Core.Path.{_≡_, ap, sym, _∙_}
+use mathlib.Core.Path.{_≡_, refl, ap, sym, _∙_}
 use mathlib.Core.Bool.{false}
 use mathlib.Core.List.{[], _∷_, _++_}
 use mathlib.Core.Option.{Option, none, some}
@@ -12,7 +12,7 @@ use borrow.Author.Needs.{needs}
 use borrow.Author.Tests.{ne-eqb}
 use denote.Ref.{now}
 use lib.Dec.{eqb, lit<}
-use lib.ListN.{length, length-set, length-replicate}
+use lib.ListN.{length, length-set}
 use lib.Pow.{pow-mono}
 use Rattle.bits.proofs.Reading.{field-lt}
 use Rattle.meaning.specs.Cases.{clash}
@@ -26,13 +26,13 @@ use Rattle.file.proofs.Bounds.{edges-high}
 use Rattle.file.proofs.EdgeLists.{edges-more, edges-around, file-fault-here, file-fault-next}
 use Rattle.file.proofs.Tests.{fault-free}
 use Rattle.table.specs.Table.{look}
-use Rattle.table.proofs.Laws.{look-empty, look-more}
+use Rattle.table.proofs.Laws.{look-empty, look-more, source-low}
 use Rattle.table.proofs.read_edges.Statement.{statement}
 use Rattle.table.proofs.read_edges.Tie as tie
 
 abbrev Inv-loop : tie.InvT-loop
 Inv-loop table₀ p file at n m e width before₀ place₀ i₀ table before place i =
-    (i ≤ e) × (place ≡ at + edgeBits p * i) × (length table ≡ 16384)
+    (i ≤ e) × (place ≡ at + edgeBits p * i) × (length table ≡ length table₀)
     × ((before .source < 256) × (before .label < 256))
     × (firstFault n m none 0 (edgesFrom p file at e) ≡ firstFault n m (edgeBefore (eqb i 0) before) i (edgesFrom p file place (e - i)))
     × (firstFault n m none 0 (edgesFrom p file at e) ≡ none → look table ≡ target (edgesFrom p file at i))
@@ -50,10 +50,10 @@ edge-bits-requires c κs = search needs
 loop-holds : tie.Need-loop-holds Inv-loop μ-loop
 unfolding edgesFrom
 loop-holds c =
-    let is = c .before .before .pre .4 in
-    let e = c .before .before .args .e in
+    let is = c .before .before .before .pre .4 in
+    let e = c .before .before .before .args .e in
     let z : e - 0 ≡ e = omega arith in
-    (omega arith, omega arith, ap length is ∙ length-replicate {A = ℕ} 16384 65535, (lit< tt, lit< tt), rw z, λ clear. ap look is ∙ look-empty)
+    (omega arith, omega arith, refl, (lit< tt, lit< tt), rw z, λ clear. ap look is ∙ look-empty (length (now (c .before .before .before .args .table))))
 
 read-requires : tie.Need-read-requires Inv-loop μ-loop
 read-requires c κs = search needs
@@ -67,11 +67,14 @@ enum-told c = search needs
 enum-told-2 : tie.Need-enum-told-2 Inv-loop μ-loop
 enum-told-2 c = search needs
 
+same-length : tie.Need-same-length Inv-loop μ-loop
+same-length c = c .before .before .before .before .before .loop .inv .2
+
 returns : tie.Need-returns Inv-loop μ-loop
 returns c =
     let read = c .before .before .before .read in
     let loop = c .before .before .before .before .before .loop in
-    let a = c .before .before .before .before .before .before .before .before .args in
+    let a = c .before .before .before .before .before .before .before .before .before .args in
     let found = ap faultOf (c .enum-told2 .given .1) in
     let first =
     found
@@ -96,19 +99,31 @@ mul-table-2 c = omega (arith, c .before .before .before .before .read .ensures .
 label<64 : (c : tie.After-read Inv-loop μ-loop) → c .read .result .label < 64
 unfolding edgeAt
 label<64 c =
-    let start = c .before .before .before .before .before in
+    let start = c .before .before .before .before .before .before in
     let p = start .args .p in
     let place = c .before .before .loop .place in
     rw (ap (λ (e : Edge). e .label) (c .read .ensures .0))
     (lt-of-lt-of-le (field-lt (now (start .args .file)) (place + p .states) (p .labels)) (pow-mono {j = 6} (start .pre .1)))
 
-element-write-table : tie.Need-element-write-table Inv-loop μ-loop
-element-write-table c = let read = c .before .before .before .before in omega (arith, read .read .ensures .1 .0, label<64 read)
+-- the edge's entry is in the table
+in-range : (c : tie.After-struct-known Inv-loop μ-loop) → c .before .before .before .before .read .result .source * 64 + c .before .before .before .before .read .result .label
+    < length (c .before .before .before .before .before .before .loop .table)
+in-range c =
+    let told = c .before in
+    let read = told .before .before .before in
+    let loop = read .before .before .loop in
+    let start = read .before .before .before .before .before .before in
+    let low = source-low (start .args .n) (start .args .m) (loop .i) (edgeBefore (eqb (loop .i) 0) (loop .before)) (edgeOf (read .read .result))
+    (sym (told .before .before .test .ensures) ∙ ap faultOf (told .enum-told .given .1)) in
+    omega (arith, low, label<64 read, loop .inv .2, start .pre .5)
+
+slice-write-table : tie.Need-slice-write-table Inv-loop μ-loop
+slice-write-table c = in-range c
 
 add-place : tie.Need-add-place Inv-loop μ-loop
 add-place c =
     let loop = c .before .before .before .before .before .before .loop in
-    let start = c .before .before .before .before .before .before .before .before .before in
+    let start = c .before .before .before .before .before .before .before .before .before .before in
     omega (arith, edges-high (start .args .p) (start .pre .0) (loop .i) (omega arith), c .before .before .before .before .before .before .before .edge-bits .ensures .1)
 
 add-i : tie.Need-add-i Inv-loop μ-loop
@@ -123,7 +138,7 @@ loop-again c =
     let read = told .before .before .before in
     let loop = read .before .before .loop in
     let bits = read .before .before .before .edge-bits .ensures .0 in
-    let start = read .before .before .before .before .before in
+    let start = read .before .before .before .before .before .before in
     let a = start .args in
     let s = now (a .file) in
     let i = loop .i in
@@ -144,16 +159,19 @@ loop-again c =
           (file-fault-next (a .p) s (loop .place) (a .e) i (read .before .loop-test .taken) edge (read .read .ensures .0) (a .n) (a .m) (edgeBefore (eqb i 0) (loop .before))
           (sym (ap faultOf (told .enum-told .given .1)) ∙ told .before .before .test .ensures)),
       λ clear.
-          look-more (loop .table) es edge rest (loop .inv .2) (read .read .ensures .1 .0) (label<64 read) (read .read .ensures .1 .2) (loop .inv .5 clear)
+          look-more (loop .table) es edge rest (in-range c) (label<64 read) (read .read .ensures .1 .2) (loop .inv .5 clear)
           (ap ascending (sym parts) ∙ fault-free (a .n) (a .m) 0 none (edgesFrom (a .p) s (a .at) (a .e)) clear .ascend)
           ∙ ap target (sym (edges-more (a .p) s (a .at) i ∙ ap (λ (e : Edge). es ++ (e ∷ [])) is)),
     )
+
+same-length-2 : tie.Need-same-length-2 Inv-loop μ-loop
+same-length-2 c = c .before .loop .inv .2
 
 returns-2 : tie.Need-returns-2 Inv-loop μ-loop
 unfolding edgesFrom firstFault
 returns-2 c =
     let loop = c .before .loop in
-    let start = c .before .before .before .before in
+    let start = c .before .before .before .before .before in
     let a = start .args in
     let none-left : a .e - loop .i ≡ 0 = omega (arith, c .loop-test .left) in
     let all : loop .i ≡ a .e = le-antisymm (loop .inv .0) (c .loop-test .left) in (
@@ -173,14 +191,16 @@ read-edges-spec =
     test-requires
     enum-told
     enum-told-2
+    same-length
     returns
     cast-to
     mul-table
     add-table
     mul-table-2
-    element-write-table
+    slice-write-table
     add-place
     add-i
     loop-less
     loop-again
+    same-length-2
     returns-2)
