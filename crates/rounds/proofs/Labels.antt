@@ -148,8 +148,8 @@ labelled-more T L m s v r l e = λ t y h k q. test (eqb t s)
     rw (getD-set-other L s t v 0 other) (r t y (omega arith) k q))
 
 -- an entry below 256 is a label that the state has
-pub has-label : (T : List ℕ) (s y : ℕ) → s < 256 → y < 64 → getD T (s * 64 + y) 0 < 256 → has (look T s y) ≡ true
+pub has-label : (T : List ℕ) (s y : ℕ) → s * 64 + y < length T → y < 64 → getD T (s * 64 + y) 0 < 256 → has (look T s y) ≡ true
 has-label T s y h l k = ap (λ (o : Option ℕ). has o) (look-here T s y h l) ∙ rw (lt-ltb _ _ k)
 
-pub lacks-label : (T : List ℕ) (s y : ℕ) → s < 256 → y < 64 → 256 ≤ getD T (s * 64 + y) 0 → has (look T s y) ≡ false
+pub lacks-label : (T : List ℕ) (s y : ℕ) → s * 64 + y < length T → y < 64 → 256 ≤ getD T (s * 64 + y) 0 → has (look T s y) ≡ false
 lacks-label T s y h l k = ap (λ (o : Option ℕ). has o) (look-here T s y h l) ∙ rw (le-ltb _ _ k)

@@ -67,7 +67,7 @@ unfolding apart
 apart-none P none = refl
 apart-none P (some k) = refl
 
-module _ (P T : List ℕ) (a b y : ℕ) (ha : a < 256) (hb : b < 256) (hy : y < 64) where
+module _ (P T : List ℕ) (a b y : ℕ) (ha : a * 64 + y < length T) (hb : b * 64 + y < length T) (hy : y < 64) where
   pub apart-left : 256 ≤ getD T (a * 64 + y) 0 → apart P (look T a y) (look T b y) ≡ false
   unfolding apart
   apart-left h = rw (look-here T a y ha hy, le-ltb _ _ h)

@@ -66,9 +66,9 @@ pub record Chained (P : List ℕ) (n : ℕ) (next nearest : List ℕ) (s : ℕ) 
   pub named : (c : ℕ) → c < 256 → at nearest c < n → at P (at nearest c) ≡ c
   pub first : (c u : ℕ) → c < 256 → s ≤ u → u < at nearest c → at P u ≡ c → ⊥
 
-pub chained-none : (P : List ℕ) (n : ℕ) (next nearest : List ℕ) → next ≡ replicate 256 n → nearest ≡ replicate 256 n → Chained P n next nearest n
-chained-none P n next nearest e q = rw (e, q) record {
-  long = length-replicate {A = ℕ} 256 n;
+pub chained-none : (P : List ℕ) (n : ℕ) (next nearest : List ℕ) → length next ≡ 256 → nearest ≡ replicate 256 n → Chained P n next nearest n
+chained-none P n next nearest e q = rw q record {
+  long = e;
   wide = length-replicate {A = ℕ} 256 n;
   behind = λ t h l. absurd (omega arith);
   inside = λ t h l. absurd (omega arith);

@@ -1,6 +1,6 @@
 // The classes of a filter's states, split round by round until no class has a conflicting pair.
 ghost use mathlib.Core.Path.{_≡_};
-ghost use Prim.Native.Nat.{ℕ, _+_, _/_, _%_, _^_, _<_, _≤_};
+ghost use Prim.Native.Nat.{ℕ, _+_, _*_, _/_, _%_, _^_, _<_, _≤_};
 ghost use mathlib.Core.Option.{some};
 ghost use lib.Dec.{eqb};
 ghost use lib.ListN.{length, take, replicate};
@@ -66,8 +66,8 @@ fn initial(colours: &[u8; 256], n: usize) -> Partition
 }
 
 // Whether label y leads from a and b to different classes.
-fn differ(table: &[u16; 16384], names: &[u16; 256], a: usize, b: usize, y: usize) -> bool
-    requires { ⌜ (a < 256) × (b < 256) × (y < 64) × (length (now names) ≡ 256) ⌝ }
+fn differ(table: &[u16], names: &[u16; 256], a: usize, b: usize, y: usize) -> bool
+    requires { ⌜ (a < 256) × (b < 256) × (y < 64) × (length (now names) ≡ 256) × (a * 64 + 64 ≤ length (now table)) × (b * 64 + 64 ≤ length (now table)) ⌝ }
     ensures { λ r. ⌜ r ≡ apart (now (names .entry)) (look (now (table .entry)) a y) (look (now (table .entry)) b y) ⌝ }
 {
     let left = table::entry(table, a, y);
@@ -82,8 +82,8 @@ fn differ(table: &[u16; 16384], names: &[u16; 256], a: usize, b: usize, y: usize
 }
 
 // The labels below m that a state has, a bit each.
-fn labels_at(table: &[u16; 16384], s: usize, m: usize) -> u64
-    requires { ⌜ (s < 256) × (m ≤ 64) ⌝ }
+fn labels_at(table: &[u16], s: usize, m: usize) -> u64
+    requires { ⌜ (s < 256) × (m ≤ 64) × (s * 64 + 64 ≤ length (now table)) ⌝ }
     ensures { λ r. ⌜ r ≡ mask (λ y. has (look (now (table .entry)) s y)) m ⌝ }
 {
     let mut labels = 0;
@@ -103,18 +103,17 @@ fn unlabelled() -> [u64; 256]
     [0; 256]
 }
 
-// The labels of each state, so that two states are tried at no label outside those that both have.
-fn labels_of(table: &[u16; 16384], m: usize, n: usize) -> [u64; 256]
-    requires { ⌜ (m ≤ 64) × (n ≤ 256) ⌝ }
-    ensures { λ r. ⌜ (length r ≡ 256) × Labelled (now (table .entry)) r m n ⌝ }
+// The labels of each state, so that two states are tried at no label outside those that both have. Arrays are lent, for one that
+// comes back as a value is copied.
+fn label(table: &[u16], m: usize, n: usize, labels: &mut [u64; 256])
+    requires { ⌜ (m ≤ 64) × (n ≤ 256) × (n * 64 ≤ length (now table)) × (length (now labels) ≡ 256) ⌝ }
+    ensures { λ _. ⌜ (length (now (labels .exit)) ≡ 256) × Labelled (now (table .entry)) (now (labels .exit)) m n ⌝ }
 {
-    let mut labels = unlabelled();
     let mut s = 0;
     while s < n {
         labels[s] = labels_at(table, s, m);
         s += 1;
     }
-    labels
 }
 
 // No label below this is in the set.
@@ -134,14 +133,14 @@ fn behind_highest(labels: u64, m: usize) -> usize
 
 // Whether a and b conflict.
 fn conflict(
-    table: &[u16; 16384],
+    table: &[u16],
     labels: &[u64; 256],
     names: &[u16; 256],
     m: usize,
     a: usize,
     b: usize,
 ) -> bool
-    requires { ⌜ (a < 256) × (b < 256) × (m ≤ 64) × (length (now labels) ≡ 256) × (length (now names) ≡ 256) × ((n : ℕ) × (a < n) × (b < n) × Labelled (now table) (now labels) m n) ⌝ }
+    requires { ⌜ (a < 256) × (b < 256) × (m ≤ 64) × (length (now labels) ≡ 256) × (length (now names) ≡ 256) × ((n : ℕ) × (a < n) × (b < n) × Labelled (now table) (now labels) m n) × (a * 64 + 64 ≤ length (now table)) × (b * 64 + 64 ≤ length (now table)) ⌝ }
     ensures { λ r. ⌜ r ≡ clash (now (table .entry)) m (now (names .entry)) a b ⌝ }
 {
     let shared = labels[a] & labels[b];
@@ -156,8 +155,8 @@ fn conflict(
     false
 }
 
-// No state has one behind it.
-fn unfollowed(n: usize) -> [u16; 256]
+// No name has a member yet: n for each.
+fn nowhere(n: usize) -> [u16; 256]
     requires { ⌜ n ≤ 256 ⌝ }
     ensures { λ r. ⌜ (r ≡ replicate 256 n) × (length r ≡ 256) ⌝ }
 {
@@ -166,7 +165,7 @@ fn unfollowed(n: usize) -> [u16; 256]
 
 // A conflicting pair of the class named c, whose members follow each other from c on.
 fn pair_in(
-    table: &[u16; 16384],
+    table: &[u16],
     labels: &[u64; 256],
     names: &[u16; 256],
     next: &[u16; 256],
@@ -174,7 +173,7 @@ fn pair_in(
     n: usize,
     c: usize,
 ) -> Found
-    requires { ⌜ (m ≤ 64) × (n ≤ 256) × (length (now names) ≡ 256) × (length (now labels) ≡ 256) × Labelled (now table) (now labels) m n × Linked (now names) n (now next) × Heads (now names) n c ⌝ }
+    requires { ⌜ (m ≤ 64) × (n ≤ 256) × (length (now names) ≡ 256) × (length (now labels) ≡ 256) × Labelled (now table) (now labels) m n × Linked (now names) n (now next) × Heads (now names) n c × (n * 64 ≤ length (now table)) ⌝ }
     ensures { λ r. ⌜ r ≡ foundOf n (clash (now (table .entry)) m (now (names .entry))) (now (names .entry)) c ⌝ }
 {
     let mut found = Found::Nothing;
@@ -218,13 +217,12 @@ impl Partition {
     }
 
     // For each state the next one behind it in its class; n where there is none.
-    fn followers(self, n: usize) -> [u16; 256]
-        requires { ⌜ (n ≤ 256) × ((s : ℕ) → s < n → at (self .names) s < 256) ⌝ }
-        ensures { λ r. ⌜ Linked (self .names) n r ⌝ }
+    fn follow(self, n: usize, next: &mut [u16; 256])
+        requires { ⌜ (n ≤ 256) × ((s : ℕ) → s < n → at (self .names) s < 256) × (length (now next) ≡ 256) ⌝ }
+        ensures { λ _. ⌜ Linked (self .names) n (now (next .exit)) ⌝ }
     {
         let names = self.names;
-        let mut next = unfollowed(n);
-        let mut nearest = unfollowed(n); // by name: the first member at s or behind it
+        let mut nearest = nowhere(n); // by name: the first member at s or behind it
         let mut s = n;
         while 0 < s {
             s -= 1;
@@ -232,19 +230,18 @@ impl Partition {
             next[s] = nearest[c];
             nearest[c] = s as u16;
         }
-        next
     }
 
     // The class with the smallest name that has a conflicting pair; n where there is none.
     fn first_parted(
         self,
-        table: &[u16; 16384],
+        table: &[u16],
         labels: &[u64; 256],
         next: &[u16; 256],
         m: usize,
         n: usize,
     ) -> usize
-        requires { ⌜ (m ≤ 64) × (n ≤ 256) × Named n (take n (self .names)) × (length (now labels) ≡ 256) × Labelled (now table) (now labels) m n × Linked (self .names) n (now next) ⌝ }
+        requires { ⌜ (m ≤ 64) × (n ≤ 256) × Named n (take n (self .names)) × (length (now labels) ≡ 256) × Labelled (now table) (now labels) m n × Linked (self .names) n (now next) × (n * 64 ≤ length (now table)) ⌝ }
         ensures { λ r. ⌜ r ≡ first n (clash (now (table .entry)) m (self .names)) (self .names) ⌝ }
     {
         let names = self.names;
@@ -265,19 +262,20 @@ impl Partition {
     // Class c is split: each of its groups becomes a class, named by its first member.
     fn split(
         self,
-        table: &[u16; 16384],
+        table: &[u16],
         labels: &[u64; 256],
         next: &[u16; 256],
         m: usize,
         n: usize,
         c: usize,
     ) -> Partition
-        requires { ⌜ (m ≤ 64) × (n ≤ 256) × (self .rounds < 65535) × (length (now labels) ≡ 256) × Labelled (now table) (now labels) m n × Linked (self .names) n (now next) × Heads (self .names) n c ⌝ }
+        requires { ⌜ (m ≤ 64) × (n ≤ 256) × (self .rounds < 65535) × (length (now labels) ≡ 256) × Labelled (now table) (now labels) m n × Linked (self .names) n (now next) × Heads (self .names) n c × (n * 64 ≤ length (now table)) ⌝ }
         ensures { λ r. ⌜ (take n (r .names) ≡ rounded n (clash (now (table .entry)) m (self .names)) (self .names) c) × (r .rounds ≡ self .rounds + 1) × (length (r .names) ≡ 256) ⌝ }
     {
         let mut names = self.names;
         let rounds = self.rounds;
-        let groups = groups_of(table, labels, &names, next, m, n, c);
+        let mut groups = ungrouped();
+        group(table, labels, &names, next, m, n, c, &mut groups);
         let mut firsts = fresh();
         let mut s = c;
         while s < n {
@@ -303,8 +301,8 @@ fn unmarked() -> [u8; 256]
 }
 
 // Marks the groups of the members of class c before s that conflict with s.
-fn marked(
-    table: &[u16; 16384],
+fn mark(
+    table: &[u16],
     labels: &[u64; 256],
     names: &[u16; 256],
     next: &[u16; 256],
@@ -313,11 +311,11 @@ fn marked(
     n: usize,
     c: usize,
     s: usize,
-) -> [u8; 256]
-    requires { ⌜ (s < n) × (n ≤ 256) × (m ≤ 64) × (length (now names) ≡ 256) × (length (now labels) ≡ 256) × (length (now groups) ≡ 256) × Labelled (now table) (now labels) m n × Linked (now names) n (now next) × Heads (now names) n c × (at (now names) s ≡ c) × ((t : ℕ) → t < s → at (now groups) t < 256) ⌝ }
-    ensures { λ r. ⌜ (length r ≡ 256) × ((g : ℕ) → g < 256 → at r g ≡ bit (taken (clash (now (table .entry)) m (now (names .entry))) (now (names .entry)) (now (groups .entry)) c s g s)) ⌝ }
+    marks: &mut [u8; 256],
+)
+    requires { ⌜ (s < n) × (n ≤ 256) × (m ≤ 64) × (length (now names) ≡ 256) × (length (now labels) ≡ 256) × (length (now groups) ≡ 256) × Labelled (now table) (now labels) m n × Linked (now names) n (now next) × Heads (now names) n c × (at (now names) s ≡ c) × ((t : ℕ) → t < s → at (now groups) t < 256) × (now marks ≡ replicate 256 0) × (n * 64 ≤ length (now table)) ⌝ }
+    ensures { λ _. ⌜ (length (now (marks .exit)) ≡ 256) × ((g : ℕ) → g < 256 → at (now (marks .exit)) g ≡ bit (taken (clash (now (table .entry)) m (now (names .entry))) (now (names .entry)) (now (groups .entry)) c s g s)) ⌝ }
 {
-    let mut marks = unmarked();
     let mut t = c;
     while t < s {
         let group = wide(groups[t]);
@@ -328,7 +326,6 @@ fn marked(
         }
         t = wide(next[t]);
     }
-    marks
 }
 
 // The smallest unmarked place below s; s where there is none.
@@ -352,27 +349,27 @@ fn ungrouped() -> [u16; 256]
     [0; 256]
 }
 
-// The group of each member of class c, members taken in ascending order; 0 for other states.
-fn groups_of(
-    table: &[u16; 16384],
+// The group of each member of class c, members taken in ascending order; other states keep 0.
+fn group(
+    table: &[u16],
     labels: &[u64; 256],
     names: &[u16; 256],
     next: &[u16; 256],
     m: usize,
     n: usize,
     c: usize,
-) -> [u16; 256]
-    requires { ⌜ (n ≤ 256) × (m ≤ 64) × (length (now names) ≡ 256) × (length (now labels) ≡ 256) × Labelled (now table) (now labels) m n × Linked (now names) n (now next) × Heads (now names) n c ⌝ }
-    ensures { λ r. ⌜ (length r ≡ 256) × (take n r ≡ groups (λ s. eqb (at (now (names .entry)) s) c) (clash (now (table .entry)) m (now (names .entry))) n) × ((s : ℕ) → s < n → at r s < 256) ⌝ }
+    into: &mut [u16; 256],
+)
+    requires { ⌜ (n ≤ 256) × (m ≤ 64) × (length (now names) ≡ 256) × (length (now labels) ≡ 256) × Labelled (now table) (now labels) m n × Linked (now names) n (now next) × Heads (now names) n c × (now into ≡ replicate 256 0) × (n * 64 ≤ length (now table)) ⌝ }
+    ensures { λ _. ⌜ (length (now (into .exit)) ≡ 256) × (take n (now (into .exit)) ≡ groups (λ s. eqb (at (now (names .entry)) s) c) (clash (now (table .entry)) m (now (names .entry))) n) × ((s : ℕ) → s < n → at (now (into .exit)) s < 256) ⌝ }
 {
-    let mut groups = ungrouped();
     let mut s = c;
     while s < n {
-        let marks = marked(table, labels, names, next, &groups, m, n, c, s);
-        groups[s] = smallest_unmarked(&marks, s);
+        let mut marks = unmarked();
+        mark(table, labels, names, next, into, m, n, c, s, &mut marks);
+        into[s] = smallest_unmarked(&marks, s);
         s = wide(next[s]);
     }
-    groups
 }
 
 // The classes at the end, and how many there were at the beginning: one a colour.
@@ -382,21 +379,23 @@ pub struct Ending {
 }
 
 // Rounds until no class has a conflicting pair.
-pub fn settled(table: &[u16; 16384], colours: &[u8; 256], m: usize, n: usize) -> Ending
-    requires { ⌜ (0 < n) × (n ≤ 256) × (m ≤ 64) × (length (now colours) ≡ 256) × ((s y t : ℕ) → look (now table) s y ≡ some t → t < n) ⌝ }
+pub fn settled(table: &[u16], colours: &[u8; 256], m: usize, n: usize) -> Ending
+    requires { ⌜ (0 < n) × (n ≤ 256) × (m ≤ 64) × (length (now colours) ≡ 256) × ((s y t : ℕ) → look (now table) s y ≡ some t → t < n) × (n * 64 ≤ length (now table)) ⌝ }
     ensures colours { λ r. ⌜ r .colours ≡ classes n (initial (taskOf (now (table .entry)) (now (colours .entry)) m n)) ⌝ }
     ensures long { λ r. ⌜ length (r .last .names) ≡ 256 ⌝ }
     ensures names { λ r. ⌜ take n (r .last .names) ≡ reduction (taskOf (now (table .entry)) (now (colours .entry)) m n) .names ⌝ }
     ensures rounds { λ r. ⌜ r .last .rounds ≡ reduction (taskOf (now (table .entry)) (now (colours .entry)) m n) .rounds ⌝ }
 {
     let first = initial(colours, n);
-    let labels = labels_of(table, m, n);
+    let mut labels = unlabelled();
+    label(table, m, n, &mut labels);
     let mut p = first;
-    let mut next = p.followers(n);
+    let mut next = fresh();
+    p.follow(n, &mut next);
     let mut c = p.first_parted(table, &labels, &next, m, n);
     while c < n {
         p = p.split(table, &labels, &next, m, n, c);
-        next = p.followers(n);
+        p.follow(n, &mut next);
         c = p.first_parted(table, &labels, &next, m, n);
     }
     Ending {

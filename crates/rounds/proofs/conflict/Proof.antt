@@ -34,12 +34,12 @@ lowest-requires : tie.Need-lowest-requires Inv-loop μ-loop
 lowest-requires c κs = search needs
 
 loop-holds : tie.Need-loop-holds Inv-loop μ-loop
-loop-holds c = let s = c .before .before .before .before in
+loop-holds c = let s = c .before .before .before .before .before in
     let few = s .pre .5 in
     shared-start _ (now (s .args .labels)) _ _ (few .0) (few .3) _ _ (few .1) (few .2) _ (c .lowest .ensures)
 
 differ-requires : tie.Need-differ-requires Inv-loop μ-loop
-differ-requires c κs = (omega arith, omega arith, omega (arith, c .before .before .before .behind-highest .ensures .0), search needs)
+differ-requires c κs = (omega arith, omega arith, omega (arith, c .before .before .before .behind-highest .ensures .0), search needs, omega arith, omega arith)
 
 returns : tie.Need-returns Inv-loop μ-loop
 returns c = sym (clash-here _ _ _ _ _ (c .before .before .before .loop .y) (omega (arith, c .before .before .before .before .before .behind-highest .ensures .0)) (sym (c .before .differ .ensures) ∙ c .if1 .taken))
@@ -54,7 +54,7 @@ loop-again : tie.Need-loop-again Inv-loop μ-loop
 loop-again c = calm-next _ _ _ _ _ _ (c .before .before .before .loop .inv) (sym (c .before .differ .ensures) ∙ c .if1 .left)
 
 returns-2 : tie.Need-returns-2 Inv-loop μ-loop
-returns-2 c = let s = c .before .before .before .before .before .before in
+returns-2 c = let s = c .before .before .before .before .before .before .before in
     let few = s .pre .5 in
     sym (shared-calm _ (now (s .args .labels)) _ _ (few .0) (few .3) _ _ (few .1) (few .2) _ _ (c .before .loop .inv) (omega arith) (c .before .before .before .behind-highest .ensures .1))
 

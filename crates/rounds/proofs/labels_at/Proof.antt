@@ -42,7 +42,7 @@ loop-less c = search needs
 
 loop-again : tie.Need-loop-again Inv-loop μ-loop
 loop-again c = let loop = c .before .before .before .loop in
-    let start = c .before .before .before .before in
+    let start = c .before .before .before .before .before in
     let T = now (start .args .table) in
     let s = start .args .s in
     let y = loop .y in
@@ -52,14 +52,14 @@ loop-again c = let loop = c .before .before .before .loop in
       omega arith,
       ⊎-elim
           (λ v. v .1 ∙ ap₂ _+_ (loop .inv .1) (shifted-one y label)
-          ∙ sym (mask-hit test y (has-label T s y (start .pre .0) label (omega (arith, v .0 .taken, is)))))
-          (λ v. v .1 ∙ loop .inv .1 ∙ sym (mask-miss test y (lacks-label T s y (start .pre .0) label (omega (arith, v .0 .left, is)))))
+          ∙ sym (mask-hit test y (has-label T s y (omega (arith, start .pre .2)) label (omega (arith, v .0 .taken, is)))))
+          (λ v. v .1 ∙ loop .inv .1 ∙ sym (mask-miss test y (lacks-label T s y (omega (arith, start .pre .2)) label (omega (arith, v .0 .left, is)))))
           (c .if1 .came),
     )
 
 returns : tie.Need-returns Inv-loop μ-loop
 returns c = let loop = c .before .loop in
-    let a = c .before .before .args in
+    let a = c .before .before .before .args in
     let all : loop .y ≡ a .m = le-antisymm (loop .inv .0) (c .loop-test .left) in
     loop .inv .1 ∙ ap (mask (λ i. has (look (now (a .table)) (a .s) i))) all
 

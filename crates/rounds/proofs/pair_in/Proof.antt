@@ -33,7 +33,7 @@ abbrev μ-search : tie.MeasureT-search
 μ-search table labels names next m n c found₀ a₀ found a = n - a
 
 search-holds : tie.Need-search-holds Inv-loop2 μ-loop2 Inv-loop μ-loop Inv-search μ-search
-search-holds c = let head = c .pre .6 in
+search-holds c = let head = c .before .pre .6 in
     (omega (arith, head .inside), λ _. head .member, refl, λ x h. opposed-other _ _ _ _ x (head .before x h))
 
 mul-wide : tie.Need-mul-wide Inv-loop2 μ-loop2 Inv-loop μ-loop Inv-search μ-search
@@ -49,7 +49,7 @@ wide-requires c κs = search needs
 loop-holds : tie.Need-loop-holds Inv-loop2 μ-loop2 Inv-loop μ-loop Inv-search μ-search
 loop-holds c = let search = c .before .before .before .search in
     let a = search .a in
-    let next = hop _ _ _ (c .before .before .before .before .pre .5) _ a _ (c .before .before .search-test .taken) (search .inv .1 (c .before .before .search-test .taken)) (c .wide .ensures) in (
+    let next = hop _ _ _ (c .before .before .before .before .before .pre .5) _ a _ (c .before .before .search-test .taken) (search .inv .1 (c .before .before .search-test .taken)) (c .wide .ensures) in (
       next .inside,
       next .member,
       next .after,
@@ -79,11 +79,11 @@ lowest-requires : tie.Need-lowest-requires Inv-loop2 μ-loop2 Inv-loop μ-loop I
 lowest-requires c κs = search needs
 
 loop2-holds : tie.Need-loop2-holds Inv-loop2 μ-loop2 Inv-loop μ-loop Inv-search μ-search
-loop2-holds c = let start = c .before .before .before .before .before .before .before .before .before .before in
+loop2-holds c = let start = c .before .before .before .before .before .before .before .before .before .before .before in
     (c .before .before .before .before .before .loop .inv .3, shared-start _ (now (start .args .labels)) _ _ _ (start .pre .4) (c .before .before .before .before .before .before .before .before .before .search .a) (c .before .before .before .before .before .loop .b) (omega arith) (omega arith) _ (c .lowest .ensures))
 
 differ-requires : tie.Need-differ-requires Inv-loop2 μ-loop2 Inv-loop μ-loop Inv-search μ-search
-differ-requires c κs = (omega arith, omega arith, omega (arith, c .before .before .before .behind-highest .ensures .0), search needs)
+differ-requires c κs = (omega arith, omega arith, omega (arith, c .before .before .before .behind-highest .ensures .0), search needs, omega arith, omega arith)
 
 add-y : tie.Need-add-y Inv-loop2 μ-loop2 Inv-loop μ-loop Inv-search μ-search
 add-y c = search needs
@@ -107,11 +107,11 @@ wide-requires-2 c κs = search needs
 
 loop-less : tie.Need-loop-less Inv-loop2 μ-loop2 Inv-loop μ-loop Inv-search μ-search
 loop-less c = let b = c .before .before .before .before .before .before .before .before .before .loop .b in
-    let next = hop _ _ _ (c .before .before .before .before .before .before .before .before .before .before .before .before .before .before .pre .5) _ b _ (c .before .before .before .before .before .before .before .before .loop-test .taken) (c .before .before .before .before .before .before .before .before .before .loop .inv .1 (c .before .before .before .before .before .before .before .before .loop-test .taken)) (c .wide2 .ensures) in
+    let next = hop _ _ _ (c .before .before .before .before .before .before .before .before .before .before .before .before .before .before .before .pre .5) _ b _ (c .before .before .before .before .before .before .before .before .loop-test .taken) (c .before .before .before .before .before .before .before .before .before .loop .inv .1 (c .before .before .before .before .before .before .before .before .loop-test .taken)) (c .wide2 .ensures) in
     omega (arith, next .after, next .inside)
 
 loop-again : tie.Need-loop-again Inv-loop2 μ-loop2 Inv-loop μ-loop Inv-search μ-search
-loop-again c = let start = c .before .before .before .before .before .before .before .before .before .before .before .before .before .before in
+loop-again c = let start = c .before .before .before .before .before .before .before .before .before .before .before .before .before .before .before in
     let a = c .before .before .before .before .before .before .before .before .before .before .before .before .before .search .a in
     let loop = c .before .before .before .before .before .before .before .before .before .loop in
     let b = loop .b in
@@ -136,13 +136,13 @@ wide-requires-3 c κs = search needs
 
 search-less : tie.Need-search-less Inv-loop2 μ-loop2 Inv-loop μ-loop Inv-search μ-search
 search-less c = let search = c .before .before .before .before .before .before .before .search in
-    let next = hop _ _ _ (c .before .before .before .before .before .before .before .before .pre .5) _ (search .a) _ (c .before .before .before .before .before .before .search-test .taken) (search .inv .1 (c .before .before .before .before .before .before .search-test .taken)) (c .wide3 .ensures) in
+    let next = hop _ _ _ (c .before .before .before .before .before .before .before .before .before .pre .5) _ (search .a) _ (c .before .before .before .before .before .before .search-test .taken) (search .inv .1 (c .before .before .before .before .before .before .search-test .taken)) (c .wide3 .ensures) in
     omega (arith, next .after, next .inside)
 
 search-again : tie.Need-search-again Inv-loop2 μ-loop2 Inv-loop μ-loop Inv-search μ-search
 search-again c = let search = c .before .before .before .before .before .before .before .search in
     let a = search .a in
-    let next = hop _ _ _ (c .before .before .before .before .before .before .before .before .pre .5) _ a _ (c .before .before .before .before .before .before .search-test .taken) (search .inv .1 (c .before .before .before .before .before .before .search-test .taken)) (c .wide3 .ensures) in
+    let next = hop _ _ _ (c .before .before .before .before .before .before .before .before .before .pre .5) _ a _ (c .before .before .before .before .before .before .search-test .taken) (search .inv .1 (c .before .before .before .before .before .before .search-test .taken)) (c .wide3 .ensures) in
     let loop = c .before .before .before .loop in (
       next .inside,
       next .member,

@@ -18,74 +18,85 @@ abbrev μ-loop : tie.MeasureT-loop
 μ-loop table colours m n begin labels p₀ next₀ c₀ p next c = n - p .rounds
 
 -- the run at its beginning
-begun : (c : tie.After-initial Inv-loop μ-loop) → Running (now (c .before .args .table)) (now (c .before .args .colours)) (c .before .args .m) (c .before .args .n) (c .initial .result .names) (c .initial .result .rounds)
+begun : (c : tie.After-initial Inv-loop μ-loop) → Running (now (c .before .before .args .table)) (now (c .before .before .args .colours)) (c .before .before .args .m) (c .before .before .args .n) (c .initial .result .names) (c .initial .result .rounds)
 begun c =
-    let pre = c .before .pre in
+    let pre = c .before .before .pre in
     running-begins _ _ _ _ (pre .0) (pre .1) (pre .4) _ _ (c .initial .ensures .0) (c .initial .ensures .1)
 
 -- and after a round more
-grown : (c : tie.After-split Inv-loop μ-loop) → Running (now (c .before .before .before .before .before .before .before .before .before .before .before .args .table)) (now (c .before .before .before .before .before .before .before .before .before .before .before .args .colours)) (c .before .before .before .before .before .before .before .before .before .before .before .args .m) (c .before .before .before .before .before .before .before .before .before .before .before .args .n) (c .split .result .names) (c .split .result .rounds)
+grown : (c : tie.After-split Inv-loop μ-loop) → Running (now (c .before .before .before .before .before .before .before .before .before .before .before .before .before .before .before .before .args .table)) (now (c .before .before .before .before .before .before .before .before .before .before .before .before .before .before .before .before .args .colours)) (c .before .before .before .before .before .before .before .before .before .before .before .before .before .before .before .before .args .m) (c .before .before .before .before .before .before .before .before .before .before .before .before .before .before .before .before .args .n) (c .split .result .names) (c .split .result .rounds)
 grown c =
-    let pre = c .before .before .before .before .before .before .before .before .before .before .before .pre in
+    let pre = c .before .before .before .before .before .before .before .before .before .before .before .before .before .before .before .before .pre in
     let old = c .before .before .before .before .loop .inv in
     running-on _ _ _ _ (pre .0) (pre .1) (pre .4) _ _ _ _ _ (old .0) (old .1) (c .before .before .before .loop-test .taken) (c .split .ensures .0) (c .split .ensures .1)
 
 initial-requires : tie.Need-initial-requires Inv-loop μ-loop
 initial-requires c κs = search needs
 
-labels-of-requires : tie.Need-labels-of-requires Inv-loop μ-loop
-labels-of-requires c κs = search needs
+unlabelled-requires : tie.Need-unlabelled-requires Inv-loop μ-loop
+unlabelled-requires c κs = search needs
 
-followers-requires : tie.Need-followers-requires Inv-loop μ-loop
-followers-requires c κs = let pre = c .before .before .pre in
-    let low = running-all _ _ _ _ (pre .0) (pre .1) (pre .4) _ _ (begun (c .before)) in
-    (pre .1, λ s h. omega (arith, low s h))
+label-requires : tie.Need-label-requires Inv-loop μ-loop
+label-requires c κs = let pre = c .before .before .before .before .pre in
+    (omega (arith, pre .2), pre .1, pre .5, c .before .unlabelled .ensures)
+
+fresh-requires : tie.Need-fresh-requires Inv-loop μ-loop
+fresh-requires c κs = search needs
+
+follow-requires : tie.Need-follow-requires Inv-loop μ-loop
+follow-requires c κs = let pre = c .before .before .before .before .before .before .before .pre in
+    let low = running-all _ _ _ _ (pre .0) (pre .1) (pre .4) _ _ (begun (c .before .before .before .before .before)) in
+    (pre .1, λ s h. omega (arith, low s h), c .before .fresh .ensures .1)
 
 first-parted-requires : tie.Need-first-parted-requires Inv-loop μ-loop
-first-parted-requires c κs = let pre = c .before .before .before .before .before .pre in
-    (omega (arith, pre .2), pre .1, running-named _ _ _ _ (pre .0) (pre .1) (pre .4) _ _ (begun (c .before .before .before .before)), c .before .before .before .labels-of .ensures .0, λ s y h l. c .before .before .before .labels-of .ensures .1 s y h (omega arith), c .before .before .followers .ensures)
+first-parted-requires c κs = let pre = c .before .before .before .before .before .before .before .before .before .before .pre in
+    let labelled = c .before .before .before .before .before .label .ensures in
+    (omega (arith, pre .2), pre .1, running-named _ _ _ _ (pre .0) (pre .1) (pre .4) _ _ (begun (c .before .before .before .before .before .before .before .before)), labelled .0, λ s y h l. labelled .1 s y h (omega arith), c .before .before .follow .ensures, pre .5)
 
 loop-holds : tie.Need-loop-holds Inv-loop μ-loop
-loop-holds c = (begun (c .before .before .before .before .before), c .first-parted .ensures, c .before .before .before .before .before .initial .ensures .2, c .before .before .before .followers .ensures)
+loop-holds c = (begun (c .before .before .before .before .before .before .before .before .before), c .first-parted .ensures, c .before .before .before .before .before .before .before .before .before .initial .ensures .2, c .before .before .before .follow .ensures)
 
 split-requires : tie.Need-split-requires Inv-loop μ-loop
-split-requires c κs = let pre = c .before .before .before .before .before .before .before .before .before .before .pre in
+split-requires c κs = let pre = c .before .before .before .before .before .before .before .before .before .before .before .before .before .before .before .pre in
     let inv = c .before .before .before .loop .inv in
+    let labelled = c .before .before .before .before .before .before .before .before .before .before .label .ensures in
     let low = running-low _ _ _ _ (pre .0) (pre .1) (pre .4) _ _ (inv .0) in (
-      omega arith,
-      omega arith,
+      omega (arith, pre .2),
+      pre .1,
       omega (arith, low, pre .1),
-      c .before .before .before .before .before .before .before .before .labels-of .ensures .0,
-      λ s y h l. c .before .before .before .before .before .before .before .before .labels-of .ensures .1 s y h (omega arith),
+      labelled .0,
+      λ s y h l. labelled .1 s y h (omega arith),
       inv .3,
       running-heads _ _ _ _ (pre .0) (pre .1) (pre .4) _ _ _ (inv .0) (inv .1) (c .before .before .loop-test .taken),
+      pre .5,
     )
 
-followers-requires-2 : tie.Need-followers-requires-2 Inv-loop μ-loop
-followers-requires-2 c κs = let pre = c .before .before .before .before .before .before .before .before .before .before .before .pre in
-    let low = running-all _ _ _ _ (pre .0) (pre .1) (pre .4) _ _ (grown c) in
-    (pre .1, λ s h. omega (arith, low s h))
+follow-requires-2 : tie.Need-follow-requires-2 Inv-loop μ-loop
+follow-requires-2 c κs = let pre = c .before .before .before .before .before .before .before .before .before .before .before .before .before .before .before .before .before .pre in
+    let low = running-all _ _ _ _ (pre .0) (pre .1) (pre .4) _ _ (grown (c .before)) in
+    (pre .1, λ s h. omega (arith, low s h), c .before .before .before .before .before .loop .inv .3 .long)
 
 first-parted-requires-2 : tie.Need-first-parted-requires-2 Inv-loop μ-loop
-first-parted-requires-2 c κs = let pre = c .before .before .before .before .before .before .before .before .before .before .before .before .before .before .pre in
-    (omega (arith, pre .2), pre .1, running-named _ _ _ _ (pre .0) (pre .1) (pre .4) _ _ (grown (c .before .before .before)), c .before .before .before .before .before .before .before .before .before .before .before .before .labels-of .ensures .0, λ s y h l. c .before .before .before .before .before .before .before .before .before .before .before .before .labels-of .ensures .1 s y h (omega arith), c .before .before .followers2 .ensures)
+first-parted-requires-2 c κs = let pre = c .before .before .before .before .before .before .before .before .before .before .before .before .before .before .before .before .before .before .before .before .pre in
+    let labelled = c .before .before .before .before .before .before .before .before .before .before .before .before .before .before .before .label .ensures in
+    (omega (arith, pre .2), pre .1, running-named _ _ _ _ (pre .0) (pre .1) (pre .4) _ _ (grown (c .before .before .before .before)), labelled .0, λ s y h l. labelled .1 s y h (omega arith), c .before .before .follow2 .ensures, pre .5)
 
 loop-less : tie.Need-loop-less Inv-loop μ-loop
-loop-less c = let pre = c .before .before .before .before .before .before .before .before .before .before .before .before .before .before .before .pre in
-    let low = running-low _ _ _ _ (pre .0) (pre .1) (pre .4) _ _ (c .before .before .before .before .before .before .before .before .loop .inv .0) in
-    omega (arith, low, c .before .before .before .before .split .ensures .1)
+loop-less c = let pre = c .before .before .before .before .before .before .before .before .before .before .before .before .before .before .before .before .before .before .before .before .before .pre in
+    let low = running-low _ _ _ _ (pre .0) (pre .1) (pre .4) _ _ (c .before .before .before .before .before .before .before .before .before .loop .inv .0) in
+    omega (arith, low, c .before .before .before .before .before .split .ensures .1)
 
 loop-again : tie.Need-loop-again Inv-loop μ-loop
-loop-again c = (grown (c .before .before .before .before), c .first-parted2 .ensures, c .before .before .before .before .split .ensures .2, c .before .before .before .followers2 .ensures)
+loop-again c = (grown (c .before .before .before .before .before), c .first-parted2 .ensures, c .before .before .before .before .before .split .ensures .2, c .before .before .before .follow2 .ensures)
 
 classes-requires : tie.Need-classes-requires Inv-loop μ-loop
 classes-requires c κs = search needs
 
 returns : tie.Need-returns Inv-loop μ-loop
-returns c = let begun = c .before .before .before .before .before .before .before .before .initial in
-    let pre = c .before .before .before .before .before .before .before .before .before .pre in
+returns c = let begun = c .before .before .before .before .before .before .before .before .before .before .before .before .initial in
+    let pre = c .before .before .before .before .before .before .before .before .before .before .before .before .before .before .pre in
     let inv = c .before .before .loop .inv in
-    let end = running-ends _ _ _ _ (pre .0) (pre .1) (pre .4) _ _ _ (inv .0) (inv .1) (omega arith) in (
+    let end = running-ends _ _ _ _ (pre .0) (pre .1) (pre .4) _ _ _ (inv .0) (inv .1) (c .before .loop-test .left) in (
       c .classes .ensures .0 ∙ classes-begin _ _ _ _ (pre .0) (pre .1) (pre .4) _ (begun .ensures .0),
       (inv .2, (sym (ap (λ (Q : Classes). Q .names) end), sym (ap (λ (Q : Classes). Q .rounds) end))),
     )
@@ -97,12 +108,14 @@ settled-spec =
     Inv-loop
     μ-loop
     initial-requires
-    labels-of-requires
-    followers-requires
+    unlabelled-requires
+    label-requires
+    fresh-requires
+    follow-requires
     first-parted-requires
     loop-holds
     split-requires
-    followers-requires-2
+    follow-requires-2
     first-parted-requires-2
     loop-less
     loop-again

@@ -34,8 +34,8 @@ cast-if1 : tie.Need-cast-if1 Inv-loop μ-loop
 cast-if1 c = omega arith
 
 pair-in-requires : tie.Need-pair-in-requires Inv-loop μ-loop
-pair-in-requires c κs = let pre = c .before .before .before .before .before .pre in
-    (omega (arith, pre .0), pre .1, search needs, pre .3, pre .4, pre .5, heads _ _ (pre .2) _ (omega arith) (c .before .if1 .taken))
+pair-in-requires c κs = let pre = c .before .before .before .before .before .before .pre in
+    (omega (arith, pre .0), pre .1, search needs, pre .3, pre .4, pre .5, heads _ _ (pre .2) _ (omega arith) (c .before .if1 .taken), pre .6)
 
 enum-told : tie.Need-enum-told Inv-loop μ-loop
 enum-told c = search needs
@@ -55,7 +55,7 @@ loop-less c = search needs
 
 loop-again : tie.Need-loop-again Inv-loop μ-loop
 loop-again c = let loop = c .before .before .loop in
-    let start = c .before .before .before .before in
+    let start = c .before .before .before .before .before in
     let a = start .args in
     let names = a .self .names in
     let clashes = clash (now (a .table)) (a .m) names in (

@@ -16,15 +16,18 @@ Inv-loop table labels next m n c names₀ rounds groups firsts₀ s₀ names fir
 abbrev μ-loop : tie.MeasureT-loop
 μ-loop table labels next m n c names₀ rounds groups firsts₀ s₀ names firsts s = n - s
 
-groups-of-requires : tie.Need-groups-of-requires Inv-loop μ-loop
-groups-of-requires c κs = let pre = c .before .before .pre in
-    (pre .1, omega (arith, pre .0), search needs, pre .3, pre .4, pre .5, pre .6)
+ungrouped-requires : tie.Need-ungrouped-requires Inv-loop μ-loop
+ungrouped-requires c κs = search needs
+
+group-requires : tie.Need-group-requires Inv-loop μ-loop
+group-requires c κs = let pre = c .before .before .before .before .before .pre in
+    (pre .1, omega (arith, pre .0), search needs, pre .3, pre .4, pre .5, pre .6, c .before .before .ungrouped .ensures .0, pre .7)
 
 fresh-requires : tie.Need-fresh-requires Inv-loop μ-loop
 fresh-requires c κs = search needs
 
 loop-holds : tie.Need-loop-holds Inv-loop μ-loop
-loop-holds c = let head = c .before .before .before .before .pre .6 in (
+loop-holds c = let head = c .before .before .before .before .before .before .before .pre .6 in (
   omega (arith, head .inside),
   λ _. head .member,
   renamed-skip _ _ _ _ _ _ 0 (renamed-none _ _ _ _ _ _ refl (search needs) (c .fresh .ensures .0)) _ (omega arith) (λ x h l. head .before x l),
@@ -42,7 +45,7 @@ wide-requires c κs = search needs
 -- a group has a place of its own
 group-low : (c : tie.After-wide Inv-loop μ-loop) → c .wide .result < 256
 group-low c =
-    let low = c .before .before .before .before .groups-of .ensures .2 (c .before .before .loop .s) (c .before .loop-test .taken) in
+    let low = c .before .before .before .before .group .ensures .2 (c .before .before .loop .s) (c .before .loop-test .taken) in
     omega (arith, low, c .wide .ensures)
 
 mul-if1 : tie.Need-mul-if1 Inv-loop μ-loop
@@ -83,11 +86,11 @@ wide-requires-2 c κs = search needs
 
 loop-less : tie.Need-loop-less Inv-loop μ-loop
 loop-less c = let loop = c .before .before .before .before .before .loop in
-    let next = hop _ _ _ (c .before .before .before .before .before .before .before .before .before .before .pre .5) _ (loop .s) _ (c .before .before .before .before .loop-test .taken) (loop .inv .1 (c .before .before .before .before .loop-test .taken)) (c .wide2 .ensures) in
+    let next = hop _ _ _ (c .before .before .before .before .before .before .before .before .before .before .before .before .before .pre .5) _ (loop .s) _ (c .before .before .before .before .loop-test .taken) (loop .inv .1 (c .before .before .before .before .loop-test .taken)) (c .wide2 .ensures) in
     omega (arith, next .after, next .inside)
 
 loop-again : tie.Need-loop-again Inv-loop μ-loop
-loop-again c = let pre = c .before .before .before .before .before .before .before .before .before .before .pre in
+loop-again c = let pre = c .before .before .before .before .before .before .before .before .before .before .before .before .before .pre in
     let loop = c .before .before .before .before .before .loop in
     let s = loop .s in
     let taken = c .before .before .before .before .loop-test .taken in
@@ -101,13 +104,13 @@ loop-again c = let pre = c .before .before .before .before .before .before .befo
     (c .before .before .if1 .came) in
     (next .inside, next .member, renamed-skip _ _ _ _ _ _ (s + 1) more _ (omega (arith, next .after)) (λ x h l. next .gap x (omega arith) l))
 
-add-t34 : tie.Need-add-t34 Inv-loop μ-loop
-add-t34 c = search needs
+add-t36 : tie.Need-add-t36 Inv-loop μ-loop
+add-t36 c = search needs
 
 returns : tie.Need-returns Inv-loop μ-loop
 returns c = let inv = c .before .loop .inv in
-    let made = c .before .before .before .groups-of .ensures in
-    (renamed-all _ _ _ _ _ _ _ (inv .2) (omega arith) (c .before .before .before .before .before .before .pre .1) ∙ rounded-by _ _ _ _ _ (made .1), refl, inv .2 .long)
+    let made = c .before .before .before .group .ensures in
+    (renamed-all _ _ _ _ _ _ _ (inv .2) (omega arith) (c .before .before .before .before .before .before .before .before .before .pre .1) ∙ rounded-by _ _ _ _ _ (made .1), refl, inv .2 .long)
 
 pub split-spec : {M : Type 1} → statement M
 split-spec =
@@ -115,7 +118,8 @@ split-spec =
     (tie.spec
     Inv-loop
     μ-loop
-    groups-of-requires
+    ungrouped-requires
+    group-requires
     fresh-requires
     loop-holds
     mul-wide
@@ -135,5 +139,5 @@ split-spec =
     wide-requires-2
     loop-less
     loop-again
-    add-t34
+    add-t36
     returns)

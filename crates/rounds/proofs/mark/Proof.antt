@@ -1,4 +1,4 @@
--- `rounds::marked` meets its contract. Assumes nothing.
+-- `rounds::mark` meets its contract. Assumes nothing.
 use Prim.Native.Nat.{_≤_, _<_, _+_, _-_}
 use native.Mathlib.Omega.{arith}
 use mathlib.Core.Path.{_≡_, sym, ap, _∙_}
@@ -12,8 +12,8 @@ use Rattle.rounds.specs.Rounds.{clash}
 use Rattle.rounds.proofs.Laws.{Marks, marks-none, marks-skip, marks-calm, marks-again, marks-more, marks-all}
 use Rattle.rounds.proofs.Members.{Hop, hop}
 use borrow.Author.Needs.{needs}
-use Rattle.rounds.proofs.marked.Statement.{statement}
-use Rattle.rounds.proofs.marked.Tie as tie
+use Rattle.rounds.proofs.mark.Statement.{statement}
+use Rattle.rounds.proofs.mark.Tie as tie
 
 abbrev Inv-loop : tie.InvT-loop
 Inv-loop table labels names next groups m n c s marks₀ t₀ marks t = (t ≤ s) × (at names t ≡ c) × Marks (clash table m names) names groups c s marks t
@@ -21,15 +21,12 @@ Inv-loop table labels names next groups m n c s marks₀ t₀ marks t = (t ≤ s
 abbrev μ-loop : tie.MeasureT-loop
 μ-loop table labels names next groups m n c s marks₀ t₀ marks t = s - t
 
-unmarked-requires : tie.Need-unmarked-requires Inv-loop μ-loop
-unmarked-requires c κs = search needs
-
 loop-holds : tie.Need-loop-holds Inv-loop μ-loop
 loop-holds c = let start = c .before in
     let head = start .pre .8 in (
       test (ltb (start .args .s) (start .args .c)) (λ q. absurd (head .before _ (ltb-true _ _ q) (start .pre .9))) (λ q. ltb-false _ _ q),
       head .member,
-      marks-skip _ _ _ _ _ _ 0 _ (rw (c .unmarked .ensures .0) (marks-none _ _ _ _ _)) (omega arith) (λ x h l. head .before x l),
+      marks-skip _ _ _ _ _ _ 0 _ (rw (start .pre .11) (marks-none _ _ _ _ _)) (omega arith) (λ x h l. head .before x l),
     )
 
 mul-wide : tie.Need-mul-wide Inv-loop μ-loop
@@ -47,15 +44,15 @@ group-low c =
     let low = c .before .before .before .before .before .pre .10 (c .before .before .before .loop .t) (omega arith) in
     omega (arith, low, c .wide .ensures)
 
-array-read-if1 : tie.Need-array-read-if1 Inv-loop μ-loop
-array-read-if1 c = omega (arith, group-low c)
+element-copy-out-if1 : tie.Need-element-copy-out-if1 Inv-loop μ-loop
+element-copy-out-if1 c = omega (arith, group-low c)
 
 conflict-requires : tie.Need-conflict-requires Inv-loop μ-loop
-conflict-requires c κs = let start = c .before .before .before .before .before .before in
-    (omega arith, omega arith, omega arith, start .pre .4, search needs, (start .args .n, omega arith, start .pre .0, start .pre .6))
+conflict-requires c κs = let start = c .before .before .before .before .before .before .before in
+    (omega arith, omega arith, omega arith, start .pre .4, search needs, (start .args .n, omega arith, start .pre .0, start .pre .6), omega (arith, start .pre .12), omega (arith, start .pre .12))
 
-array-write-marks : tie.Need-array-write-marks Inv-loop μ-loop
-array-write-marks c = omega (arith, group-low (c .before .before .before))
+element-write-marks : tie.Need-element-write-marks Inv-loop μ-loop
+element-write-marks c = omega (arith, group-low (c .before .before .before .before))
 
 mul-wide-2 : tie.Need-mul-wide-2 Inv-loop μ-loop
 mul-wide-2 c = search needs
@@ -66,15 +63,15 @@ element-copy-out-wide-2 c = search needs
 wide-requires-2 : tie.Need-wide-requires-2 Inv-loop μ-loop
 wide-requires-2 c κs = search needs
 
-step : (c : tie.After-wide2 Inv-loop μ-loop) → Hop (now (c .before .before .before .before .before .before .before .before .args .names)) (c .before .before .before .before .before .before .before .before .args .n) (c .before .before .before .before .before .before .before .before .args .c) (c .before .before .before .before .before .before .loop .t) (c .wide2 .result)
+step : (c : tie.After-wide2 Inv-loop μ-loop) → Hop (now (c .before .before .before .before .before .before .before .before .before .args .names)) (c .before .before .before .before .before .before .before .before .before .args .n) (c .before .before .before .before .before .before .before .before .before .args .c) (c .before .before .before .before .before .before .before .loop .t) (c .wide2 .result)
 step c =
-    let loop = c .before .before .before .before .before .before .loop in
-    hop _ _ _ (c .before .before .before .before .before .before .before .before .pre .7) _ (loop .t) _ (omega arith) (loop .inv .1) (c .wide2 .ensures)
+    let loop = c .before .before .before .before .before .before .before .loop in
+    hop _ _ _ (c .before .before .before .before .before .before .before .before .before .pre .7) _ (loop .t) _ (omega arith) (loop .inv .1) (c .wide2 .ensures)
 
 -- s is a member, so the next one is s or before it
-reached : (c : tie.After-wide2 Inv-loop μ-loop) → c .wide2 .result ≤ c .before .before .before .before .before .before .before .before .args .s
+reached : (c : tie.After-wide2 Inv-loop μ-loop) → c .wide2 .result ≤ c .before .before .before .before .before .before .before .before .before .args .s
 reached c =
-    let start = c .before .before .before .before .before .before .before .before in
+    let start = c .before .before .before .before .before .before .before .before .before in
     test (ltb (start .args .s) (c .wide2 .result)) (λ q. absurd (step c .gap (start .args .s) (omega arith) (ltb-true _ _ q) (start .pre .9))) (λ q. ltb-false _ _ q)
 
 loop-less : tie.Need-loop-less Inv-loop μ-loop
@@ -82,16 +79,16 @@ loop-less c = let next = step c in
     omega (arith, next .after, next .inside)
 
 loop-again : tie.Need-loop-again Inv-loop μ-loop
-loop-again c = let start = c .before .before .before .before .before .before .before .before in
-    let loop = c .before .before .before .before .before .before .loop in
+loop-again c = let start = c .before .before .before .before .before .before .before .before .before in
+    let loop = c .before .before .before .before .before .before .before .loop in
     let t = loop .t in
     let next = step c in
     let low = start .pre .10 t (omega arith) in
     let behind = ⊎-elim
-    (λ w. marks-more _ _ _ _ _ _ _ _ _ (loop .inv .2) (w .3) (c .before .before .before .wide .ensures) (loop .inv .1) (sym (w .1 .ensures) ∙ w .2 .taken) low)
+    (λ w. marks-more _ _ _ _ _ _ _ _ _ (loop .inv .2) (w .3) (c .before .before .before .before .wide .ensures) (loop .inv .1) (sym (w .1 .ensures) ∙ w .2 .taken) low)
     (⊎-elim
     (λ w. marks-calm _ _ _ _ _ _ _ _ (loop .inv .2) (w .3) (sym (w .1 .ensures) ∙ w .2 .left))
-    (λ w. marks-again _ _ _ _ _ _ _ t (loop .inv .2) (w .1) low (λ z. w .0 .left (ap (at (loop .marks)) (c .before .before .before .wide .ensures) ∙ z))))
+    (λ w. marks-again _ _ _ _ _ _ _ t (loop .inv .2) (w .1) low (λ z. w .0 .left (ap (at (loop .marks)) (c .before .before .before .before .wide .ensures) ∙ z))))
     (c .before .before .if1 .came) in (
       reached c,
       next .member (omega (arith, reached c)),
@@ -102,20 +99,19 @@ returns : tie.Need-returns Inv-loop μ-loop
 returns c = let all = marks-all _ _ _ _ _ _ _ (c .before .loop .inv .2) (omega arith) in
     (all .long, all .says)
 
-pub marked-spec : {M : Type 1} → statement M
-marked-spec =
+pub mark-spec : {M : Type 1} → statement M
+mark-spec =
     tie.close
     (tie.spec
     Inv-loop
     μ-loop
-    unmarked-requires
     loop-holds
     mul-wide
     element-copy-out-wide
     wide-requires
-    array-read-if1
+    element-copy-out-if1
     conflict-requires
-    array-write-marks
+    element-write-marks
     mul-wide-2
     element-copy-out-wide-2
     wide-requires-2

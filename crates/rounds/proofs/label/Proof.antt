@@ -1,13 +1,14 @@
--- `rounds::labels_of` meets its contract. Assumes nothing.
+-- `rounds::label` meets its contract. Assumes nothing.
 use Prim.Native.Nat.{_-_, _≤_}
 use mathlib.Core.Path.{_≡_, _∙_}
 use native.Mathlib.Omega.{arith}
+use denote.Ref.{now}
 use lib.ListN.{length, length-set}
 use Rattle.rounds.specs.Rounds.{Labelled}
 use Rattle.rounds.proofs.Labels.{labelled-none, labelled-more}
 use borrow.Author.Needs.{needs}
-use Rattle.rounds.proofs.labels_of.Statement.{statement}
-use Rattle.rounds.proofs.labels_of.Tie as tie
+use Rattle.rounds.proofs.label.Statement.{statement}
+use Rattle.rounds.proofs.label.Tie as tie
 
 abbrev Inv-loop : tie.InvT-loop
 Inv-loop table m n labels₀ s₀ labels s = (s ≤ n) × (length labels ≡ 256) × Labelled table labels m s
@@ -15,20 +16,18 @@ Inv-loop table m n labels₀ s₀ labels s = (s ≤ n) × (length labels ≡ 256
 abbrev μ-loop : tie.MeasureT-loop
 μ-loop table m n labels₀ s₀ labels s = n - s
 
-unlabelled-requires : tie.Need-unlabelled-requires Inv-loop μ-loop
-unlabelled-requires c κs = search needs
-
 loop-holds : tie.Need-loop-holds Inv-loop μ-loop
-loop-holds c = (omega arith, c .unlabelled .ensures, labelled-none _ (c .unlabelled .result) _)
+loop-holds c = let start = c .before in
+    (omega arith, start .pre .3, labelled-none _ (now (start .args .labels)) _)
 
 labels-at-requires : tie.Need-labels-at-requires Inv-loop μ-loop
-labels-at-requires c κs = search needs
+labels-at-requires c κs = (omega arith, omega arith, omega (arith, c .before .before .before .pre .2))
 
 mul-labels : tie.Need-mul-labels Inv-loop μ-loop
 mul-labels c = search needs
 
-array-write-labels : tie.Need-array-write-labels Inv-loop μ-loop
-array-write-labels c = search needs
+element-write-labels : tie.Need-element-write-labels Inv-loop μ-loop
+element-write-labels c = search needs
 
 add-s : tie.Need-add-s Inv-loop μ-loop
 add-s c = search needs
@@ -45,17 +44,16 @@ returns : tie.Need-returns Inv-loop μ-loop
 returns c = let inv = c .before .loop .inv in
     (inv .1, λ s y h. inv .2 s y (omega arith))
 
-pub labels-of-spec : {M : Type 1} → statement M
-labels-of-spec =
+pub label-spec : {M : Type 1} → statement M
+label-spec =
     tie.close
     (tie.spec
     Inv-loop
     μ-loop
-    unlabelled-requires
     loop-holds
     labels-at-requires
     mul-labels
-    array-write-labels
+    element-write-labels
     add-s
     loop-less
     loop-again
