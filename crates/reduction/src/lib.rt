@@ -35,8 +35,30 @@ pub enum Reduced {
 pub fn reduce(file: &[u8], answer: &mut [u8], classes: &mut [u16]) -> Reduced
     ensures { λ r. ⌜ ReducePromise large (now (file .entry)) (now (answer .entry)) (now (classes .entry)) r (now (answer .exit)) (now (classes .exit)) ⌝ }
 {
-    let mut table = table::empty();
-    let checked = table::read(&mut table, file);
+    let n = table::states(file);
+    if n <= 16 {
+        let mut table = table::small();
+        return reduce_with(&mut table, file, answer, classes);
+    }
+    if n <= 64 {
+        let mut table = table::middle();
+        return reduce_with(&mut table, file, answer, classes);
+    }
+    let mut table = table::whole();
+    reduce_with(&mut table, file, answer, classes)
+}
+
+// The same with an empty table that has a row for each state.
+fn reduce_with(
+    table: &mut [u16],
+    file: &[u8],
+    answer: &mut [u8],
+    classes: &mut [u16],
+) -> Reduced
+    requires { ⌜ (now table ≡ replicate (length (now table)) 65535) × (statesIn large (now file) * 64 ≤ length (now table)) ⌝ }
+    ensures { λ r. ⌜ ReducePromise large (now (file .entry)) (now (answer .entry)) (now (classes .entry)) r (now (answer .exit)) (now (classes .exit)) ⌝ }
+{
+    let checked = table::read(table, file);
     let Checked::Accepted(reading) = checked else {
         return passed_on(checked);
     };
@@ -47,7 +69,7 @@ pub fn reduce(file: &[u8], answer: &mut [u8], classes: &mut [u16]) -> Reduced
     if classes.len() < reading.states {
         return refused(Kind::ClassRoom);
     }
-    Reduced::Accepted(fold(&mut table, file, reading, answer, classes))
+    Reduced::Accepted(fold(table, file, reading, answer, classes))
 }
 
 // A check's refusal as reduce's own.
@@ -79,13 +101,13 @@ fn wide(x: u16) -> usize
 
 // Reduces a file that was checked and whose edges are in the table, into rooms that are long enough.
 fn fold(
-    table: &mut [u16; 16384],
+    table: &mut [u16],
     file: &[u8],
     reading: Reading,
     answer: &mut [u8],
     classes: &mut [u16],
 ) -> Counts
-    requires { ⌜ (checkOf large (now file) ≡ readingOutcome reading) × (look (now table) ≡ edge (filterIn large (now file))) × (length (now table) ≡ 16384) × (length (now file) ≤ length (now answer)) × (reading .states ≤ length (now classes)) ⌝ }
+    requires { ⌜ (checkOf large (now file) ≡ readingOutcome reading) × (look (now table) ≡ edge (filterIn large (now file))) × (reading .states * 64 ≤ length (now table)) × (length (now file) ≤ length (now answer)) × (reading .states ≤ length (now classes)) ⌝ }
     ensures counts { λ r. ⌜ countsOutcome r ≡ accepted (countsOf large (filterIn large (now (file .entry)))) ⌝ }
     ensures answer { λ r. ⌜ now (answer .exit) ≡ laid (written large (reduced (filterIn large (now (file .entry))))) (now (answer .entry)) ⌝ }
     ensures classes { λ r. ⌜ now (classes .exit) ≡ laid (classList (filterIn large (now (file .entry)))) (now (classes .entry)) ⌝ }
