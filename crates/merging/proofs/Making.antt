@@ -18,7 +18,7 @@ use Rattle.meaning.specs.Reduced.{has, nameOf, mapped, class-edge, edge′, cel
 use Rattle.file.specs.declared.Reading.{Reading}
 use Rattle.file.specs.Refusals.{laid}
 use Rattle.table.specs.Table.{look}
-use Rattle.merging.specs.Merged.{Whole, Within, Rows, Listed, led, rowEdge, filterOf, mergedBy, Foldable}
+use Rattle.merging.specs.Merged.{Whole, Within, Rows, Held, Listed, led, rowEdge, filterOf, mergedBy, Foldable}
 use Rattle.merging.proofs.Merging.{tab-all}
 
 row-cong : (f g : ℕ → Option ℕ) (s y : ℕ) → ((i : ℕ) → i < y → f i ≡ g i) → row f s y ≡ row g s y
@@ -55,6 +55,9 @@ module _ (T₀ colours names : List ℕ) (r : Reading) (answer list-room : ℕ) 
 
   pub named-low : (order : List ℕ) (k : ℕ) → k ≡ classes n P → ((i : ℕ) → i < k → at order i ≡ nameOf n P i) → Rows order k
   named-low order k e h i l = omega (arith, below order k e h i l, can .few)
+
+  pub named-held : (T order : List ℕ) (k : ℕ) → length T ≡ length T₀ → k ≡ classes n P → ((i : ℕ) → i < k → at order i ≡ nameOf n P i) → Held T order k
+  named-held T order k same e h i l = omega (arith, below order k e h i l, can .table-long, same)
 
   -- What the steps before the writing have made: the classes numbered, the edges gathered, the colours of the classes.
   pub record Ready (T order list hues : List ℕ) (k : ℕ) : Type 0 where

@@ -207,13 +207,12 @@ module _ (T₀ names : List ℕ) (n m : ℕ) (w : Whole n (take n names)) where
 
   -- The members before s have given their edges to their classes.
   pub record Gathered (T : List ℕ) (s : ℕ) : Type 0 where
-    pub long : length T ≡ 16384
     pub within : Within (look T) n m
     pub done : (c y : ℕ) → c < s → at Q c ≡ c → y < m → look T c y ≡ seen next Q c y s
     pub later : (c y : ℕ) → s ≤ c → look T c y ≡ next c y
 
-  pub gathered-begins : length T₀ ≡ 16384 → Within (look T₀) n m → Gathered T₀ 0
-  gathered-begins l v = record { long = l; within = v; done = λ c y h. absurd (omega arith); later = λ c y h. refl }
+  pub gathered-begins : Within (look T₀) n m → Gathered T₀ 0
+  gathered-begins v = record { within = v; done = λ c y h. absurd (omega arith); later = λ c y h. refl }
 
   module _ (T : List ℕ) (s : ℕ) (r : Gathered T s) (h : s < n) where
     miss : (c y : ℕ) → c < s → at Q c ≡ c → y < m → (at Q s ≡ c → ⊥) → look T c y ≡ seen next Q c y (suc s)
@@ -225,7 +224,6 @@ module _ (T₀ names : List ℕ) (n m : ℕ) (w : Whole n (take n names)) where
     gathered-own e =
         let own : at Q s ≡ s = at-take names n s h ∙ e in
         rw (add-one s) (record {
-          long = r .long;
           within = r .within;
           done = λ c y l o k. test (eqb c s)
               (λ z. let z′ = eqb-true c s z in
@@ -236,16 +234,15 @@ module _ (T₀ names : List ℕ) (n m : ℕ) (w : Whole n (take n names)) where
           later = λ c y l. r .later c y (omega arith);
         })
 
-    pub gathered-given : (T′ : List ℕ) → (at names s ≡ s → ⊥) → length T′ ≡ 16384 → look T′ ≡ given (look T) s (at names s) m → Gathered T′ (s + 1)
+    pub gathered-given : (T′ : List ℕ) → (at names s ≡ s → ⊥) → look T′ ≡ given (look T) s (at names s) m → Gathered T′ (s + 1)
     unfolding seen given
-    gathered-given T′ e l is =
+    gathered-given T′ e is =
         let d = at names s in
         let name : at Q s ≡ d = at-take names n s h in
         let below : d < s = omega (arith, w .low s h, name, e) in
         let at′ : (c y : ℕ) → look T′ c y ≡ given (look T) s d m c y = λ c y. ap (λ (f : ℕ → ℕ → Option ℕ). f c y) is in
         let apart : (c y : ℕ) → (c ≡ d → ⊥) → look T′ c y ≡ look T c y = λ c y z. at′ c y ∙ rw (ne-eqb c d z) in
         rw (add-one s) (record {
-          long = l;
           within = subst (λ (f : ℕ → ℕ → Option ℕ). Within f n m) (sym is) (given-within (look T) s d n m (omega arith) (r .within));
           done = λ c y k o u. test (eqb c d)
               (λ z. let z′ = eqb-true c d z in
@@ -267,12 +264,12 @@ module _ (T₀ names : List ℕ) (n m : ℕ) (w : Whole n (take n names)) where
 
 -- ---- edges counted and written, one label or one class further
 
-module _ (T : List ℕ) (s y : ℕ) (state : s < 256) (label : y < 64) where
+module _ (T : List ℕ) (s y : ℕ) (row-held : s * 64 + 64 ≤ length T) (label : y < 64) where
   pub look-some : getD T (s * 64 + y) 0 < 256 → look T s y ≡ some (getD T (s * 64 + y) 0)
-  look-some h = look-here T s y state label ∙ rw (lt-ltb _ _ h)
+  look-some h = look-here T s y (omega arith) label ∙ rw (lt-ltb _ _ h)
 
   pub look-none : 256 ≤ getD T (s * 64 + y) 0 → look T s y ≡ none
-  look-none h = look-here T s y state label ∙ rw (le-ltb _ _ h)
+  look-none h = look-here T s y (omega arith) label ∙ rw (le-ltb _ _ h)
 
 pub row-more : (f : ℕ → Option ℕ) (k y t : ℕ) → f y ≡ some t → row f k (y + 1) ≡ row f k y ++ (record { source = k; label = y; target = t } ∷ [])
 unfolding row cell

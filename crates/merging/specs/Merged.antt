@@ -1,6 +1,6 @@
 -- The words of the reduced filter as the code has them: rows of the table, numbers and names in lists that may be longer than there
 -- are classes. Assumes nothing.
-use Prim.Native.Nat.{ℕ, _≤_, _<_}
+use Prim.Native.Nat.{ℕ, _+_, _*_, _≤_, _<_}
 use mathlib.Core.Path.{_≡_}
 use mathlib.Core.Bool.{true}
 use mathlib.Core.List.{List, [], _∷_}
@@ -24,9 +24,13 @@ pub record Whole (n : ℕ) (P : List ℕ) : Type 0 where
 abbrev pub Within : (ℕ → ℕ → Option ℕ) → ℕ → ℕ → Type 0
 Within next n m = (s y t : ℕ) → next s y ≡ some t → (s < n) × (y < m) × (t < n)
 
--- The names of k classes are rows of the table.
+-- The names of k classes are below 256, as all states are.
 abbrev pub Rows : List ℕ → ℕ → Type 0
 Rows names k = (i : ℕ) → i < k → at names i < 256
+
+-- The table holds the rows of k classes by their names.
+abbrev pub Held : List ℕ → List ℕ → ℕ → Type 0
+Held table names k = (i : ℕ) → i < k → at names i * 64 + 64 ≤ length table
 
 -- Each target of the table's edges has a number in the list, below a limit.
 abbrev pub Listed : List ℕ → List ℕ → ℕ → Type 0
@@ -55,7 +59,7 @@ pub record Foldable (table colours names : List ℕ) (r : Reading) (answer list 
   pub few : r .states ≤ 256
   pub labels : r .labels ≤ 64
   pub begins : r .start < r .states
-  pub table-long : length table ≡ 16384
+  pub table-long : r .states * 64 ≤ length table
   pub colours-long : length colours ≡ 256
   pub names-long : length names ≡ 256
   pub within : Within (look table) (r .states) (r .labels)

@@ -21,7 +21,7 @@ ghost use Rattle.file.specs.Answers.{accepted};
 ghost use Rattle.file.specs.Refusals.{laid, writeOf};
 ghost use Rattle.file.specs.Code.{Usable};
 ghost use Rattle.table.specs.Table.{look};
-ghost use Rattle.merging.specs.Merged.{Whole, Within, Rows, Listed, led, rowEdge, filterOf, mergedBy, Foldable};
+ghost use Rattle.merging.specs.Merged.{Whole, Within, Rows, Held, Listed, led, rowEdge, filterOf, mergedBy, Foldable};
 
 // The classes by ascending name: how many, and the name of each.
 struct Order {
@@ -91,9 +91,9 @@ fn colours_by(colours: &[u8; 256], order: Order) -> [u8; 256]
 }
 
 // Gives the state that names a class the edges of all its members: at each label that of the first member that has one.
-fn gather(table: &mut [u16; 16384], names: &[u16; 256], m: usize, n: usize)
-    requires { ⌜ (m ≤ 64) × (n ≤ 256) × (length (now table) ≡ 16384) × (length (now names) ≡ 256) × Whole n (take n (now names)) × Within (look (now table)) n m ⌝ }
-    ensures { λ _. ⌜ (length (now (table .exit)) ≡ 16384) × Within (look (now (table .exit))) n m × ((c y : ℕ) → c < n → at (take n (now (names .entry))) c ≡ c → y < m → look (now (table .exit)) c y ≡ look (now (table .entry)) (least (λ s. eqb (at (take n (now (names .entry))) s) c && has (look (now (table .entry)) s y)) n) y) ⌝ }
+fn gather(table: &mut [u16], names: &[u16; 256], m: usize, n: usize)
+    requires { ⌜ (m ≤ 64) × (n ≤ 256) × (n * 64 ≤ length (now table)) × (length (now names) ≡ 256) × Whole n (take n (now names)) × Within (look (now table)) n m ⌝ }
+    ensures { λ _. ⌜ (length (now (table .exit)) ≡ length (now (table .entry))) × Within (look (now (table .exit))) n m × ((c y : ℕ) → c < n → at (take n (now (names .entry))) c ≡ c → y < m → look (now (table .exit)) c y ≡ look (now (table .entry)) (least (λ s. eqb (at (take n (now (names .entry))) s) c && has (look (now (table .entry)) s y)) n) y) ⌝ }
 {
     let mut t: usize = 0;
     while t < n {
@@ -106,8 +106,8 @@ fn gather(table: &mut [u16; 16384], names: &[u16; 256], m: usize, n: usize)
 }
 
 // How many edges a state has.
-fn row_length(table: &[u16; 16384], s: usize, m: usize) -> usize
-    requires { ⌜ (s < 256) × (m ≤ 64) ⌝ }
+fn row_length(table: &[u16], s: usize, m: usize) -> usize
+    requires { ⌜ (s < 256) × (m ≤ 64) × (s * 64 + 64 ≤ length (now table)) ⌝ }
     ensures { λ r. ⌜ (r ≡ count (λ y. has (look (now (table .entry)) s y)) m) × (r ≤ m) ⌝ }
 {
     let mut e = 0;
@@ -122,8 +122,8 @@ fn row_length(table: &[u16; 16384], s: usize, m: usize) -> usize
 }
 
 // How many edges the classes have.
-fn edge_count(table: &[u16; 16384], order: Order, m: usize) -> usize
-    requires { ⌜ (order .count ≤ 256) × (m ≤ 64) × Rows (order .names) (order .count) ⌝ }
+fn edge_count(table: &[u16], order: Order, m: usize) -> usize
+    requires { ⌜ (order .count ≤ 256) × (m ≤ 64) × Rows (order .names) (order .count) × Held (now table) (order .names) (order .count) ⌝ }
     ensures { λ r. ⌜ (r ≡ cells (λ k y. has (look (now (table .entry)) (at (order .names) k) y)) (order .count) m) × (r ≤ 16384) ⌝ }
 {
     let count = order.count;
@@ -142,13 +142,13 @@ fn put_row(
     p: Profile,
     part: &mut [u8],
     begun: Pen,
-    table: &[u16; 16384],
+    table: &[u16],
     s: usize,
     k: usize,
     m: usize,
     list: &[u16],
 ) -> Pen
-    requires { ⌜ Usable p × Ready begun × (placeOf begun ≤ 2 ^ 32) × (s < 256) × (k < 2 ^ p .states) × (m ≤ 64) × (m ≤ 2 ^ p .labels) × Listed (now table) (now list) (2 ^ p .states) ⌝ }
+    requires { ⌜ Usable p × Ready begun × (placeOf begun ≤ 2 ^ 32) × (s < 256) × (k < 2 ^ p .states) × (m ≤ 64) × (m ≤ 2 ^ p .labels) × Listed (now table) (now list) (2 ^ p .states) × (s * 64 + 64 ≤ length (now table)) ⌝ }
     ensures edges { λ r. ⌜ inked (now (part .exit)) r ≡ putEdges p (inked (now (part .entry)) begun) (placeOf begun) (row (λ y. led (now (list .entry)) (look (now (table .entry)) s y)) k m) ⌝ }
     ensures behind { λ r. ⌜ (placeOf r ≡ placeOf begun + edgeBits p * length (row (λ y. led (now (list .entry)) (look (now (table .entry)) s y)) k m)) × (placeOf r ≤ placeOf begun + 24 * m) × Ready r ⌝ }
 {
@@ -174,12 +174,12 @@ fn put_rows(
     p: Profile,
     part: &mut [u8],
     bit: usize,
-    table: &[u16; 16384],
+    table: &[u16],
     order: Order,
     m: usize,
     list: &[u16],
 )
-    requires { ⌜ Usable p × (bit ≤ 7) × (order .count ≤ 256) × (order .count ≤ 2 ^ p .states) × (m ≤ 64) × (m ≤ 2 ^ p .labels) × Rows (order .names) (order .count) × Listed (now table) (now list) (2 ^ p .states) ⌝ }
+    requires { ⌜ Usable p × (bit ≤ 7) × (order .count ≤ 256) × (order .count ≤ 2 ^ p .states) × (m ≤ 64) × (m ≤ 2 ^ p .labels) × Rows (order .names) (order .count) × Listed (now table) (now list) (2 ^ p .states) × Held (now table) (order .names) (order .count) ⌝ }
     ensures { λ _. ⌜ now (part .exit) ≡ putEdges p (now (part .entry)) bit (listed (rowEdge (now (table .entry)) (order .names) (now (list .entry))) (order .count) m) ⌝ }
 {
     let count = order.count;
@@ -198,12 +198,12 @@ fn put_edges(
     p: Profile,
     room: &mut [u8],
     bit: usize,
-    table: &[u16; 16384],
+    table: &[u16],
     order: Order,
     m: usize,
     list: &[u16],
 )
-    requires { ⌜ Usable p × (bit / 8 ≤ length (now room)) × (order .count ≤ 256) × (order .count ≤ 2 ^ p .states) × (m ≤ 64) × (m ≤ 2 ^ p .labels) × Rows (order .names) (order .count) × Listed (now table) (now list) (2 ^ p .states) ⌝ }
+    requires { ⌜ Usable p × (bit / 8 ≤ length (now room)) × (order .count ≤ 256) × (order .count ≤ 2 ^ p .states) × (m ≤ 64) × (m ≤ 2 ^ p .labels) × Rows (order .names) (order .count) × Listed (now table) (now list) (2 ^ p .states) × Held (now table) (order .names) (order .count) ⌝ }
     ensures { λ _. ⌜ now (room .exit) ≡ putEdges p (now (room .entry)) bit (listed (rowEdge (now (table .entry)) (order .names) (now (list .entry))) (order .count) m) ⌝ }
 {
     let from = bit / 8;
@@ -216,12 +216,12 @@ fn write(
     room: &mut [u8],
     hues: &[u8],
     start: usize,
-    table: &[u16; 16384],
+    table: &[u16],
     order: Order,
     m: usize,
     list: &[u16],
 ) -> usize
-    requires { ⌜ Usable p × (order .count ≡ length (now hues)) × (m ≤ 64) × Rows (order .names) (order .count) × Listed (now table) (now list) (2 ^ p .states) × (writeOf p (filterOf (now hues) m start (rowEdge (now table) (order .names) (now list)) (order .count)) true (length (now room)) ≡ accepted (lengthOf p (filterOf (now hues) m start (rowEdge (now table) (order .names) (now list)) (order .count)) ∷ [])) ⌝ }
+    requires { ⌜ Usable p × (order .count ≡ length (now hues)) × (m ≤ 64) × Rows (order .names) (order .count) × Listed (now table) (now list) (2 ^ p .states) × (writeOf p (filterOf (now hues) m start (rowEdge (now table) (order .names) (now list)) (order .count)) true (length (now room)) ≡ accepted (lengthOf p (filterOf (now hues) m start (rowEdge (now table) (order .names) (now list)) (order .count)) ∷ [])) × Held (now table) (order .names) (order .count) ⌝ }
     ensures bytes { λ r. ⌜ now (room .exit) ≡ laid (written p (filterOf (now (hues .entry)) m start (rowEdge (now (table .entry)) (order .names) (now (list .entry))) (order .count))) (now (room .entry)) ⌝ }
     ensures length { λ r. ⌜ r ≡ lengthOf p (filterOf (now (hues .entry)) m start (rowEdge (now (table .entry)) (order .names) (now (list .entry))) (order .count)) ⌝ }
 {
@@ -242,7 +242,7 @@ pub struct Made {
 
 // Writes the file of the classes with these names, and the number of each state. The edges are gathered in the table itself.
 pub fn merged(
-    table: &mut [u16; 16384],
+    table: &mut [u16],
     colours: &[u8; 256],
     names: &[u16; 256],
     reading: Reading,

@@ -34,10 +34,14 @@ wide-requires : tie.Need-wide-requires Inv-loop μ-loop
 wide-requires c κs = search needs
 
 row-length-requires : tie.Need-row-length-requires Inv-loop μ-loop
-row-length-requires c κs = (rw (c .wide .ensures) (c .before .before .before .before .pre .2 (c .before .before .loop .k) (c .before .loop-test .taken)), c .before .before .before .before .pre .1)
+row-length-requires c κs =
+    let pre = c .before .before .before .before .before .pre in
+    let k = c .before .before .loop .k in
+    let taken = c .before .loop-test .taken in
+    (rw (c .wide .ensures) (pre .2 k taken), pre .1, rw (c .wide .ensures) (pre .3 k taken))
 
 add-e : tie.Need-add-e Inv-loop μ-loop
-add-e c = omega (arith, c .row-length .ensures .1, c .before .before .before .loop .inv .1, c .before .before .before .before .before .pre .0, c .before .before .before .before .before .pre .1)
+add-e c = omega (arith, c .row-length .ensures .1, c .before .before .before .loop .inv .1, c .before .before .before .before .before .before .pre .0, c .before .before .before .before .before .before .pre .1)
 
 add-k : tie.Need-add-k Inv-loop μ-loop
 add-k c = search needs
@@ -48,20 +52,20 @@ loop-less c = search needs
 loop-again : tie.Need-loop-again Inv-loop μ-loop
 loop-again c =
     let loop = c .before .before .before .loop in
-    let a = c .before .before .before .before .before .args in
+    let a = c .before .before .before .before .before .before .args in
     let T = now (a .table) in
     let test : ℕ → ℕ → Bool = λ i y. has (look T (at (a .order .names) i) y) in (
       omega arith,
-      omega (arith, c .row-length .ensures .1, loop .inv .1, c .before .before .before .before .before .pre .1),
+      omega (arith, c .row-length .ensures .1, loop .inv .1, c .before .before .before .before .before .before .pre .1),
       ap₂ (λ (i j : ℕ). i + j) (loop .inv .2) (c .row-length .ensures .0 ∙ ap (λ (s : ℕ). count (λ y. has (look T s y)) (a .m)) (c .before .wide .ensures)) ∙ sym (cells-more test (loop .k) (a .m)),
     )
 
 returns : tie.Need-returns Inv-loop μ-loop
 returns c =
     let loop = c .before .loop in
-    let a = c .before .before .before .args in
+    let a = c .before .before .before .before .args in
     let all : loop .k ≡ a .order .count = le-antisymm (loop .inv .0) (c .loop-test .left) in
-    (loop .inv .2 ∙ ap (λ (k : ℕ). Listing.cells (λ i y. has (look (now (a .table)) (at (a .order .names) i) y)) k (a .m)) all, omega (arith, loop .inv .1, c .before .before .before .pre .0))
+    (loop .inv .2 ∙ ap (λ (k : ℕ). Listing.cells (λ i y. has (look (now (a .table)) (at (a .order .names) i) y)) k (a .m)) all, omega (arith, loop .inv .1, c .before .before .before .before .pre .0))
 
 pub edge-count-spec : {M : Type 1} → statement M
 edge-count-spec =

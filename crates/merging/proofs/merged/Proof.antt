@@ -16,25 +16,34 @@ use Rattle.file.specs.Refusals.{laid, writeOf}
 use Rattle.file.proofs.Bounds.{large-usable}
 use Rattle.merging.specs.declared.Order.{Order}
 use Rattle.merging.specs.Merged.{Foldable, Rows, Listed, rowEdge, filterOf, mergedBy}
-use Rattle.merging.proofs.Making.{few-classes, named-low, Ready, numbers-laid, targets-listed, hues-long, filter-made}
+use Rattle.merging.proofs.Making.{few-classes, named-low, named-held, Ready, numbers-laid, targets-listed, hues-long, filter-made}
 use Rattle.merging.proofs.merged.Statement.{statement}
 use Rattle.merging.proofs.merged.Tie as tie
 
 abbrev start₁ : tie.After-colours-by → tie.Start
-start₁ c = c .before .before .before .before .before .before .before .before .before
+start₁ c = c .before .before .before .before .before .before .before .before .before .before .before .before
+
+abbrev numbered₁ : tie.After-colours-by → tie.After-numbered
+numbered₁ c = c .before .before .before .before .before .before .before
 
 abbrev order₁ : tie.After-colours-by → Order
-order₁ c = c .before .before .before .before .before .numbered .result
+order₁ c = numbered₁ c .numbered .result
 
 abbrev list₁ : tie.After-colours-by → List ℕ
-list₁ c = c .before .before .before .before .before .numbered .last .1 .1 .0
+list₁ c = numbered₁ c .numbered .last .1 .1 .0
+
+abbrev gather₁ : tie.After-colours-by → tie.After-gather
+gather₁ c = c .before .before .before
+
+abbrev table₁ : tie.After-colours-by → List ℕ
+table₁ c = gather₁ c .gather .last .0
 
 abbrev hues₁ : tie.After-colours-by → List ℕ
 hues₁ c = take (order₁ c .count) (c .colours-by .result)
 
 low : (c : tie.After-numbered) → (c .numbered .result .count ≤ 256) × Rows (c .numbered .result .names) (c .numbered .result .count)
 low c =
-    let start = c .before .before .before .before in
+    let start = c .before .before .before .before .before in
     let a = start .args in
     let made = c .numbered .ensures .1 in (
       omega (arith, made .0, few-classes (now (a .table)) (now (a .colours)) (now (a .names)) (a .reading) _ _ (start .pre)),
@@ -43,11 +52,11 @@ low c =
 
 ready : (c : tie.After-colours-by) →
     Ready (now (start₁ c .args .table)) (now (start₁ c .args .colours)) (now (start₁ c .args .names)) (start₁ c .args .reading) (length (now (start₁ c .args .answer))) (length (now (start₁ c .args .list))) (start₁ c .pre)
-    (c .before .gather .last .0) (order₁ c .names) (list₁ c) (hues₁ c) (order₁ c .count)
+    (table₁ c) (order₁ c .names) (list₁ c) (hues₁ c) (order₁ c .count)
 ready c =
     let a = start₁ c .args in
-    let made = c .before .before .before .before .before .numbered in
-    let gathered = c .before .gather .ensures in
+    let made = numbered₁ c .numbered in
+    let gathered = gather₁ c .gather .ensures in
     record {
       counted = made .ensures .1 .0;
       ordered = made .ensures .1 .1;
@@ -60,13 +69,13 @@ ready c =
 
 -- what is written is the filter of the classes
 filter-of : (c : tie.After-wide) →
-    filterOf (hues₁ (c .before .before)) (start₁ (c .before .before) .args .reading .labels) (c .wide .result) (rowEdge (c .before .before .before .gather .last .0) (order₁ (c .before .before) .names) (list₁ (c .before .before))) (order₁ (c .before .before) .count)
+    filterOf (hues₁ (c .before .before)) (start₁ (c .before .before) .args .reading .labels) (c .wide .result) (rowEdge (table₁ (c .before .before)) (order₁ (c .before .before) .names) (list₁ (c .before .before))) (order₁ (c .before .before) .count)
     ≡ mergedBy (now (start₁ (c .before .before) .args .table)) (now (start₁ (c .before .before) .args .colours)) (now (start₁ (c .before .before) .args .names)) (start₁ (c .before .before) .args .reading)
 filter-of c =
     let b = c .before .before in
     let start = start₁ b in
     let a = start .args in
-    let T = b .before .gather .last .0 in
+    let T = table₁ b in
     ap (λ (s : ℕ). filterOf (hues₁ b) (a .reading .labels) s (rowEdge T (order₁ b .names) (list₁ b)) (order₁ b .count)) (c .wide .ensures)
     ∙ filter-made (now (a .table)) (now (a .colours)) (now (a .names)) (a .reading) _ _ (start .pre) T (order₁ b .names) (list₁ b) (hues₁ b) (order₁ b .count) (ready b)
 
@@ -77,13 +86,13 @@ gather-requires : tie.Need-gather-requires
 gather-requires c κs = search needs
 
 colours-by-requires : tie.Need-colours-by-requires
-colours-by-requires c κs = let l = low (c .before .before .before .before) in (l .0, c .before .before .before .before .before .before .before .before .pre .colours-long, l .1)
+colours-by-requires c κs = let l = low (c .before .before .before .before .before .before) in (l .0, c .before .before .before .before .before .before .before .before .before .before .before .pre .colours-long, l .1)
 
 mul-wide : tie.Need-mul-wide
 mul-wide c = search needs
 
 slice-read-wide : tie.Need-slice-read-wide
-slice-read-wide c = let pre = c .before .before .before .before .before .before .before .before .before .before .pre in omega (arith, c .before .before .before .before .before .before .numbered .kept .1 .1 .0, pre .list-room, pre .begins)
+slice-read-wide c = search needs
 
 wide-requires : tie.Need-wide-requires
 wide-requires c κs = search needs
@@ -92,7 +101,7 @@ large-requires : tie.Need-large-requires
 large-requires c κs = search needs
 
 array-share-prefix-hues : tie.Need-array-share-prefix-hues
-array-share-prefix-hues c = omega (arith, low (c .before .before .before .before .before .before .before .before .before) .0, c .before .before .before .before .colours-by .ensures .1)
+array-share-prefix-hues c = omega (arith, low (c .before .before .before .before .before .before .before .before .before .before .before) .0, c .before .before .before .before .colours-by .ensures .1)
 
 slice-aggregate-write : tie.Need-slice-aggregate-write
 slice-aggregate-write c =
@@ -107,8 +116,8 @@ write-requires c κs =
     let start = start₁ b in
     let a = start .args in
     let is = c .before .before .before .before .large .ensures in
-    let made = c .before .before .before .before .before .before .before .before .before .before .before .before in
-    let T = b .before .gather .last .0 in
+    let made = numbered₁ b in
+    let T = table₁ b in
     let filter = filter-of (c .before .before .before .before .before) in (
       rw is large-usable,
       hues-long (now (a .table)) (now (a .colours)) (now (a .names)) (a .reading) _ _ (start .pre) T _ _ (hues₁ b) (order₁ b .count) (ready b),
@@ -116,6 +125,7 @@ write-requires c κs =
       low made .1,
       rw is (targets-listed (now (a .table)) (now (a .colours)) (now (a .names)) (a .reading) _ _ (start .pre) T (order₁ b .names) (list₁ b) (hues₁ b) (order₁ b .count) (ready b)),
       rw is (subst (λ (F : Filter). writeOf large F true (length (now (a .answer))) ≡ accepted (lengthOf large F ∷ [])) (sym filter) (start .pre .answer-room)),
+      named-held (now (a .table)) (now (a .colours)) (now (a .names)) (a .reading) _ _ (start .pre) T (order₁ b .names) (order₁ b .count) (gather₁ b .gather .ensures .0) (made .numbered .ensures .1 .0) (made .numbered .ensures .1 .1),
     )
 
 same-length : tie.Need-same-length
@@ -124,13 +134,17 @@ same-length c = search needs
 same-length-2 : tie.Need-same-length-2
 same-length-2 c = search needs
 
+same-length-3 : tie.Need-same-length-3
+same-length-3 c = search needs
+
 returns : tie.Need-returns
 returns c =
     let write = c .before .before .write in
-    let made = c .before .before .before .before .before .before .before .before .before .before .before .before .before .before .before .numbered in
+    let b = c .before .before .before .before .before .before .before .before .before .before in
+    let made = numbered₁ b .numbered in
     let is = c .before .before .before .before .before .before .before .large .ensures in
     let filter = filter-of (c .before .before .before .before .before .before .before .before) in
-    let room = now (c .before .before .before .before .before .before .before .before .before .before .before .before .before .before .before .before .before .before .before .args .answer) in (
+    let room = now (start₁ b .args .answer) in (
       write .ensures .0 ∙ ap₂ (λ (p : Profile) (F : Filter). laid (written p F) room) is filter,
       (made .ensures .0, (made .ensures .1 .0, write .ensures .1 ∙ ap₂ lengthOf is filter)),
     )
@@ -151,4 +165,5 @@ merged-spec =
     write-requires
     same-length
     same-length-2
+    same-length-3
     returns)

@@ -39,18 +39,18 @@ led-none list = refl
 
 -- the entry is a target
 found : (c : tie.Then1 Inv-loop μ-loop) →
-    look (now (c .before .before .before .before .before .before .args .table)) (c .before .before .before .before .before .before .args .s) (c .before .before .before .loop .y)
+    look (now (c .before .before .before .before .before .before .before .args .table)) (c .before .before .before .before .before .before .before .args .s) (c .before .before .before .loop .y)
     ≡ some (c .before .entry .result)
 found c =
-    let start = c .before .before .before .before .before .before in
+    let start = c .before .before .before .before .before .before .before in
     let y = c .before .before .before .loop .y in
     let is = c .before .entry .ensures in
-    look-some (now (start .args .table)) (start .args .s) y (start .pre .3) (omega (arith, start .pre .5, c .before .before .loop-test .taken)) (omega (arith, c .if1 .taken, is))
+    look-some (now (start .args .table)) (start .args .s) y (start .pre .8) (omega (arith, start .pre .5, c .before .before .loop-test .taken)) (omega (arith, c .if1 .taken, is))
     ∙ ap some (sym is)
 
 loop-holds : tie.Need-loop-holds Inv-loop μ-loop
 unfolding row
-loop-holds c = (omega arith, refl, c .before .before .pre .1, omega arith, put-none _ _ _)
+loop-holds c = (omega arith, refl, c .before .before .before .pre .1, omega arith, put-none _ _ _)
 
 entry-requires : tie.Need-entry-requires Inv-loop μ-loop
 entry-requires c κs = search needs
@@ -59,7 +59,7 @@ mul-wide : tie.Need-mul-wide Inv-loop μ-loop
 mul-wide c = omega arith
 
 shared-slice-read-wide : tie.Need-shared-slice-read-wide Inv-loop μ-loop
-shared-slice-read-wide c = let start = c .before .before .before .before .before .before .before in start .pre .7 _ _ _ (found (c .before)) .0
+shared-slice-read-wide c = let start = c .before .before .before .before .before .before .before .before in start .pre .7 _ _ _ (found (c .before)) .0
 
 wide-requires : tie.Need-wide-requires Inv-loop μ-loop
 wide-requires c κs = search needs
@@ -69,7 +69,7 @@ push-requires c κs =
     let taken = c .before .before .before in
     let in-loop = taken .before .before in
     let loop = in-loop .before .loop in
-    let start = in-loop .before .before .before .before in
+    let start = in-loop .before .before .before .before .before in
     let to = start .pre .7 _ _ _ (found taken) .1 in (
       start .pre .0,
       loop .inv .2,
@@ -88,7 +88,7 @@ loop-less c = search needs
 loop-again : tie.Need-loop-again Inv-loop μ-loop
 loop-again c =
     let loop = c .before .before .before .loop in
-    let start = c .before .before .before .before .before .before in
+    let start = c .before .before .before .before .before .before .before in
     let a = start .args in
     let T = now (a .table) in
     let list = now (a .list) in
@@ -111,7 +111,7 @@ loop-again c =
           (put-behind (a .p) room bit (row f (a .k) y) _ (inked (loop .part) (loop .pen)) (inked (c .if1 .part) (c .if1 .pen)) (placeOf (loop .pen)) (placeOf (c .if1 .pen)) (loop .inv .4)
           (ap₂ inked (v .7) (v .8) ∙ v .4 .ensures .0)
           (ap (λ (pen : Pen). placeOf pen) (v .8) ∙ v .4 .ensures .1 ∙ omega arith)))
-          (λ v. let gone : f y ≡ none = ap (led list) (look-none T (a .s) y (start .pre .3) label (omega (arith, v .0 .left, is))) ∙ led-none list in
+          (λ v. let gone : f y ≡ none = ap (led list) (look-none T (a .s) y (start .pre .8) label (omega (arith, v .0 .left, is))) ∙ led-none list in
           rw (v .1, v .2, row-same f (a .k) y gone) (loop .inv .4))
           (c .if1 .came),
     )
@@ -122,7 +122,7 @@ same-length c = c .before .loop .inv .1
 returns : tie.Need-returns Inv-loop μ-loop
 returns c =
     let loop = c .before .loop in
-    let a = c .before .before .before .before .args in
+    let a = c .before .before .before .before .before .args in
     let all : loop .y ≡ a .m = le-antisymm (loop .inv .0) (c .loop-test .left) in
     let r : Put (a .p) (inked (now (a .part)) (a .begun)) (placeOf (a .begun)) (row (λ i. led (now (a .list)) (look (now (a .table)) (a .s) i)) (a .k) (a .m)) (inked (loop .part) (loop .pen)) (placeOf (loop .pen)) =
     subst (λ (y : ℕ). Put (a .p) (inked (now (a .part)) (a .begun)) (placeOf (a .begun)) (row (λ i. led (now (a .list)) (look (now (a .table)) (a .s) i)) (a .k) y) (inked (loop .part) (loop .pen)) (placeOf (loop .pen))) all (loop .inv .4) in

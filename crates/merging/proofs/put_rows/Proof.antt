@@ -34,7 +34,7 @@ loop-holds : tie.Need-loop-holds Inv-loop μ-loop
 unfolding listed
 loop-holds c =
     let is = c .begin .ensures in
-    let a = c .before .before .before .before .before .args in (
+    let a = c .before .before .before .before .before .before .args in (
       omega arith,
       refl,
       is .2,
@@ -55,7 +55,7 @@ put-row-requires : tie.Need-put-row-requires Inv-loop μ-loop
 put-row-requires c κs =
     let in-loop = c .before .before in
     let loop = in-loop .before .loop in
-    let pre = in-loop .before .before .before .before .before .before .before .pre in (
+    let pre = in-loop .before .before .before .before .before .before .before .before .pre in (
       pre .0,
       loop .inv .2,
       omega (arith, loop .inv .3, loop .inv .0, pre .1, pre .2),
@@ -64,6 +64,7 @@ put-row-requires c κs =
       omega (arith, pre .4),
       omega (arith, pre .5),
       pre .7,
+      rw (c .wide .ensures) (pre .8 (loop .k) (in-loop .loop-test .taken)),
     )
 
 add-k : tie.Need-add-k Inv-loop μ-loop
@@ -76,7 +77,7 @@ loop-again : tie.Need-loop-again Inv-loop μ-loop
 loop-again c =
     let put = c .before .before .put-row in
     let loop = c .before .before .before .before .before .before .loop in
-    let start = c .before .before .before .before .before .before .before .before .before .before .before .before in
+    let start = c .before .before .before .before .before .before .before .before .before .before .before .before .before in
     let a = start .args in
     let names = a .order .names in
     let T = now (a .table) in
@@ -108,7 +109,7 @@ returns c =
     let done = c .before .before in
     let left = done .before .before in
     let loop = left .before .loop in
-    let a = left .before .before .before .before .before .before .before .args in
+    let a = left .before .before .before .before .before .before .before .before .args in
     let all : loop .k ≡ a .order .count = le-antisymm (loop .inv .0) (left .loop-test .left) in
     done .finish .ensures ∙ loop .inv .4 .room
     ∙ ap (λ (k : ℕ). putEdges (a .p) (now (a .part)) (a .bit) (listed (rowEdge (now (a .table)) (a .order .names) (now (a .list))) k (a .m))) all

@@ -41,7 +41,7 @@ loop-less c = search needs
 loop-again : tie.Need-loop-again Inv-loop μ-loop
 loop-again c =
     let loop = c .before .before .before .loop in
-    let start = c .before .before .before .before in
+    let start = c .before .before .before .before .before in
     let T = now (start .args .table) in
     let s = start .args .s in
     let y = loop .y in
@@ -50,8 +50,8 @@ loop-again c =
     let test : ℕ → Bool = λ i. has (look T s i) in (
       omega arith,
       ⊎-elim
-          (λ v. v .1 ∙ ap (λ (k : ℕ). k + 1) (loop .inv .1) ∙ sym (count-hit test y (ap (λ (o : Option ℕ). has o) (look-some T s y (start .pre .0) label (omega (arith, v .0 .taken, is))))))
-          (λ v. v .1 ∙ loop .inv .1 ∙ sym (count-miss test y (ap (λ (o : Option ℕ). has o) (look-none T s y (start .pre .0) label (omega (arith, v .0 .left, is))))))
+          (λ v. v .1 ∙ ap (λ (k : ℕ). k + 1) (loop .inv .1) ∙ sym (count-hit test y (ap (λ (o : Option ℕ). has o) (look-some T s y (start .pre .2) label (omega (arith, v .0 .taken, is))))))
+          (λ v. v .1 ∙ loop .inv .1 ∙ sym (count-miss test y (ap (λ (o : Option ℕ). has o) (look-none T s y (start .pre .2) label (omega (arith, v .0 .left, is))))))
           (c .if1 .came),
       ⊎-elim (λ v. omega (arith, v .1)) (λ v. omega (arith, v .1)) (c .if1 .came),
     )
@@ -59,7 +59,7 @@ loop-again c =
 returns : tie.Need-returns Inv-loop μ-loop
 returns c =
     let loop = c .before .loop in
-    let a = c .before .before .args in
+    let a = c .before .before .before .args in
     let all : loop .y ≡ a .m = le-antisymm (loop .inv .0) (c .loop-test .left) in
     (loop .inv .1 ∙ ap (count (λ i. has (look (now (a .table)) (a .s) i))) all, omega arith)
 

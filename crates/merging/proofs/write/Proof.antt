@@ -41,8 +41,8 @@ colours : (c : tie.Start) → F c .colours ≡ now (c .args .hues)
 colours c = ap (λ (k : ℕ). tab k (at (now (c .args .hues)))) (c .pre .1) ∙ tab-all (now (c .args .hues))
 
 -- the edges are as many as were counted
-counted : (c : tie.After-edge-count) → c .edge-count .result ≡ length (F (c .before .before .before .before) .edges)
-counted c = c .edge-count .ensures .0 ∙ (let a = c .before .before .before .before .args in
+counted : (c : tie.After-edge-count) → c .edge-count .result ≡ length (F (c .before .before .before .before .before) .edges)
+counted c = c .edge-count .ensures .0 ∙ (let a = c .before .before .before .before .before .args in
     sym (listed-counted (now (a .table)) (a .order .names) (now (a .list)) (a .order .count) (a .m)))
 
 -- header, colours, edges and filling of n classes with e edges
@@ -54,11 +54,11 @@ all c n e cs =
     putField (putEdges p coloured (edgesBegin p n) (F c .edges)) (fileBits p n e) (fillBits p n e) 0
 
 edge-count-requires : tie.Need-edge-count-requires
-edge-count-requires c κs = let start = c .before .before .before in (count≤256 start, start .pre .2, start .pre .3)
+edge-count-requires c κs = let start = c .before .before .before .before in (count≤256 start, start .pre .2, start .pre .3, start .pre .6)
 
 put-requires : tie.Need-put-requires
 put-requires c κs =
-    let start = c .before .before .before .before .before in
+    let start = c .before .before .before .before .before .before in
     let w = passed start .writable in
     (start .pre .0, rw (count start, ← counted (c .before)) at (header-fit (start .args .p) (start .pre .0) (F start) w), rw (count start) at (w .states-low), w .labels-low)
 
@@ -67,7 +67,7 @@ header-bits-requires c κs = search needs
 
 put-run-requires : tie.Need-put-run-requires
 put-run-requires c κs =
-    let start = c .before .before .before .before .before .before .before .before .before .before in
+    let start = c .before .before .before .before .before .before .before .before .before .before .before in
     let p = start .args .p in
     let ok = start .pre .0 in
     let n = length (now (start .args .hues)) in
@@ -75,12 +75,12 @@ put-run-requires c κs =
     (ok .colour≤, omega (arith, c .header-bits .ensures .1, mul-comm n (p .colour), colours-high p ok n (omega (arith, start .pre .1, count≤256 start))), rw (colours start) at (colours-fit p ok (F start) w))
 
 edges-begin-requires : tie.Need-edges-begin-requires
-edges-begin-requires c κs = let start = c .before .before .before .before .before .before .before .before .before .before .before .before .before .before in (start .pre .0, count≤256 start)
+edges-begin-requires c κs = let start = c .before .before .before .before .before .before .before .before .before .before .before .before .before .before .before in (start .pre .0, count≤256 start)
 
 put-edges-requires : tie.Need-put-edges-requires
 unfolding lengthOf fileLength bytesFor fileBits
 put-edges-requires c κs =
-    let start = c .before .before .before .before .before .before .before .before .before .before .before .before .before .before .before in
+    let start = c .before .before .before .before .before .before .before .before .before .before .before .before .before .before .before .before in
     let p = start .args .p in
     let pre = start .pre in
     let w = passed start .writable in
@@ -94,13 +94,14 @@ put-edges-requires c κs =
       w .labels-high,
       pre .3,
       pre .4,
+      pre .6,
     )
 
 fill-requires : tie.Need-fill-requires
-fill-requires c κs = let start = c .before .before .before .before .before .before .before .before .before .before .before .before .before .before .before .before .before .before .before in (start .pre .0, count≤256 start, omega (arith, c .before .before .before .before .before .before .before .before .before .before .before .before .before .before .before .edge-count .ensures .1))
+fill-requires c κs = let start = c .before .before .before .before .before .before .before .before .before .before .before .before .before .before .before .before .before .before .before .before in (start .pre .0, count≤256 start, omega (arith, c .before .before .before .before .before .before .before .before .before .before .before .before .before .before .before .edge-count .ensures .1))
 
 file-bits-requires : tie.Need-file-bits-requires
-file-bits-requires c κs = let start = c .before .before .before .before .before .before .before .before .before .before .before .before .before .before .before .before .before .before .before .before .before .before in (start .pre .0, count≤256 start, omega (arith, c .before .before .before .before .before .before .before .before .before .before .before .before .before .before .before .before .before .before .edge-count .ensures .1))
+file-bits-requires c κs = let start = c .before .before .before .before .before .before .before .before .before .before .before .before .before .before .before .before .before .before .before .before .before .before .before in (start .pre .0, count≤256 start, omega (arith, c .before .before .before .before .before .before .before .before .before .before .before .before .before .before .before .before .before .before .edge-count .ensures .1))
 
 bytes-for-requires : tie.Need-bytes-for-requires
 bytes-for-requires c κs = search needs
@@ -112,7 +113,7 @@ returns : tie.Need-returns
 unfolding lengthOf fileLength
 returns c =
     let run = c .before .before .before .before .before .before .before .before .before .before .before .before .before in
-    let start = c .before .before .before .before .before .before .before .before .before .before .before .before .before .before .before .before .before .before .before .before .before .before .before .before in
+    let start = c .before .before .before .before .before .before .before .before .before .before .before .before .before .before .before .before .before .before .before .before .before .before .before .before .before in
     let a = start .args in
     let p = a .p in
     let room = now (a .room) in
@@ -121,7 +122,7 @@ returns c =
     let e = c .before .before .before .before .before .before .before .before .before .before .before .before .before .before .before .before .before .before .before .before .edge-count .result in
     let es = F start .edges in
     let header : List ℕ = putFields room 0 (p .states ∷ p .labels ∷ p .start ∷ p .edges ∷ []) ((n - 1) ∷ (a .m - 1) ∷ a .start ∷ e ∷ []) in
-    let bytes : Bytes room = λ i. omega (arith, c .before .before .before .before .before .before .before .before .before .before .before .before .before .before .before .before .before .before .before .before .before .before .before .slice-known .given i) in
+    let bytes : Bytes room = λ i. omega (arith, c .before .before .before .before .before .before .before .before .before .before .before .before .before .before .before .before .before .before .before .before .before .before .before .before .slice-known .given i) in
     let written : c .before .before .before .before .fill .last .1 .0 ≡ all start n e hues =
     c .before .before .before .before .fill .ensures
     ∙ ap (λ (s : List ℕ). putField s (fileBits p n e) (fillBits p n e) 0)
