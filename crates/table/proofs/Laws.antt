@@ -1,4 +1,4 @@
--- Laws of the table's look-up: an empty table, and one edge more.
+-- Laws of the table's look-up: an empty table, one edge more, and the table of a file.
 -- Assumes nothing.
 use mathlib.Core.Path.{_≡_, refl, sym, ap, _∙_, fun-ext, subst}
 use mathlib.Core.Bool.{true, false}
@@ -11,12 +11,19 @@ use lib.Dec.{eqb, ltb}
 use lib.ListN.{length, getD, set, drop, replicate, List·getD-append, List·getD-eq-default}
 use lib.Seq.{getD-set-same, getD-set-other, getD-drop, getD-append-add}
 use borrow.Author.Tests.{lt-ltb, le-ltb, ltb-true, ltb-false, eq-eqb, ne-eqb}
-use Rattle.meaning.specs.Filter.{Edge, each, inside, ascending}
-use Rattle.meaning.specs.Trace.{target}
+use Rattle.meaning.specs.Filter.{Edge, each, inside, ascending, states}
+use Rattle.meaning.specs.Trace.{target, edge}
 use Rattle.meaning.specs.TraceLaws.{stands, target-snoc, target-before, target-fresh}
+use Rattle.meaning.specs.Demand.{fits}
 use Rattle.meaning.specs.Cases.{test, and-left}
-use Rattle.file.specs.Refusals.{edgeFault, faultAt, firstFault}
+use Rattle.file.specs.Layout.{large}
+use Rattle.file.specs.Contents.{statesIn, labelsIn, filterIn}
+use Rattle.file.specs.Answers.{accepted}
+use Rattle.file.specs.Refusals.{edgeFault, faultAt, firstFault, checkOf}
+use Rattle.file.proofs.Bounds.{large-usable, states-high}
 use Rattle.file.proofs.Tests.{fault-free}
+use Rattle.file.proofs.Files.{length-filter}
+use Rattle.file.proofs.RoundTrip.{checked-in-order}
 use Rattle.table.specs.Table.{entry, look, or, given}
 
 -- what is read past the end counts only there
@@ -151,6 +158,22 @@ module _ (T₀ T : List ℕ) (from to y : ℕ) (hf : from * 64 + y < length T) (
       let lacks : none ≡ look T₀ to y = sym (rw (le-ltb _ _ h)) ∙ read to ht in
       given-more (look T₀) from to y (look (set T (to * 64 + y) v)) (look-stored T to y v ht hy ∙ read from hf ∙ rw (← lacks))
       (λ s z other. look-kept T to y v ht hy s z other ∙ ap (λ (f : ℕ → ℕ → Option ℕ). f s z) so-far)
+
+-- ---- the table of a file
+
+-- an empty table of k entries serves a file whose states need no more
+pub serves : (s T : List ℕ) (k : ℕ) → (T ≡ replicate k 65535) × (length T ≡ k) → statesIn large s * 64 ≤ k → (T ≡ replicate (length T) 65535) × (statesIn large s * 64 ≤ length T)
+serves s T k empty h = (empty .0 ∙ ap (λ (j : ℕ). replicate j 65535) (sym (empty .1)), omega (arith, empty .1))
+
+-- what the table of an accepted file gives is an edge between states of the file, at a label of the file
+pub look-within : (s vs T : List ℕ) → checkOf large s ≡ accepted vs → look T ≡ edge (filterIn large s) →
+    (a y t : ℕ) → look T a y ≡ some t → (a < statesIn large s) × (y < labelsIn large s) × (t < statesIn large s)
+unfolding filterIn
+look-within s vs T h is a y t e =
+    let F = filterIn large s in
+    let few : states F ≤ 256 = rw (length-filter large s) (states-high large large-usable s) in
+    let v = fits F few (checked-in-order large large-usable s vs h) .within a y t (sym (ap (λ (f : ℕ → ℕ → Option ℕ). f a y) is) ∙ e) in
+    (omega (arith, v .0, length-filter large s), v .1, omega (arith, v .2, length-filter large s))
 
 -- ---- colours
 

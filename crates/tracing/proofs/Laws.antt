@@ -1,7 +1,7 @@
 -- Laws of the ride, one observation further, of the labels' test, and of the largest label.
 -- Assumes nothing.
 use mathlib.Core.Path.{_≡_, refl, sym, ap, ap₂, _∙_, fun-ext}
-use mathlib.Core.Bool.{Bool, true, false, _&&_}
+use mathlib.Core.Bool.{Bool, true, false}
 use mathlib.Core.List.{List, [], _∷_, _++_, append-assoc}
 use mathlib.Core.Option.{Option, none, some}
 use Prim.Native.Nat.{ℕ, zero, suc, _+_, _*_, _-_, _≤_, _<_}
@@ -112,13 +112,12 @@ course-stop (some t) taken k h = clash cc
 -- what is looked up is a state of the table
 pub look-lt : (T : List ℕ) (s y t : ℕ) → look T s y ≡ some t → t < 256
 unfolding look
-look-lt T s y t h = go (ltb s 256) (ltb y 64) (ltb (getD T (s * 64 + y) 0) 256) refl h
+look-lt T s y t h = go (getD T (s * 64 + y) 65535) (ltb y 64) (ltb (getD T (s * 64 + y) 65535) 256) refl h
   where
-    go : (a b c : Bool) → ltb (getD T (s * 64 + y) 0) 256 ≡ c → pick (a && b) (pick c (some (getD T (s * 64 + y) 0)) none) none ≡ some t → t < 256
-    go true true true e k = let z : getD T (s * 64 + y) 0 ≡ t = cc in omega (arith, ltb-true (getD T (s * 64 + y) 0) 256 e)
-    go true true false e k = clash cc
-    go true false c e k = clash cc
-    go false b c e k = clash cc
+    go : (v : ℕ) (a b : Bool) → ltb v 256 ≡ b → pick a (pick b (some v) none) none ≡ some t → t < 256
+    go v true true e k = let z : v ≡ t = cc in omega (arith, ltb-true v 256 e)
+    go v true false e k = clash cc
+    go v false b e k = clash cc
 
 -- ---- the ride
 

@@ -4,12 +4,13 @@ use file::Kind;
 use file::Refusal;
 ghost use mathlib.Core.Path.{_≡_};
 ghost use mathlib.Core.Option.{none, some};
-ghost use Prim.Native.Nat.{ℕ, _+_, _<_, _≤_};
+ghost use Prim.Native.Nat.{ℕ, _+_, _*_, _<_, _≤_};
 ghost use lib.Dec.{ltb};
-ghost use lib.ListN.{length, getD};
+ghost use lib.ListN.{length, getD, replicate};
 ghost use Rattle.meaning.specs.Pick.{pick};
 ghost use Rattle.meaning.specs.Trace.{ridden, halted};
 ghost use Rattle.file.specs.Layout.{large};
+ghost use Rattle.file.specs.Contents.{statesIn};
 ghost use Rattle.file.specs.Answers.{checkedOutcome};
 ghost use Rattle.file.specs.Refusals.{onward, laid};
 ghost use Rattle.table.specs.Table.{look};
@@ -28,8 +29,26 @@ pub enum Traced {
 pub fn trace(file: &[u8], observations: &[u8], colours: &mut [u8]) -> Traced
     ensures { λ r. ⌜ TracePromise large (now (file .entry)) (now (observations .entry)) (now (colours .entry)) r (now (colours .exit)) ⌝ }
 {
-    let mut table = table::empty();
-    let answer = table::read(&mut table, file);
+    // The shortest table with a row for each state.
+    let n = table::states(file);
+    if n <= 16 {
+        let mut table = table::small();
+        return trace_with(&mut table, file, observations, colours);
+    }
+    if n <= 64 {
+        let mut table = table::middle();
+        return trace_with(&mut table, file, observations, colours);
+    }
+    let mut table = table::whole();
+    trace_with(&mut table, file, observations, colours)
+}
+
+// The same with an empty table that is long enough for the file's states.
+fn trace_with(table: &mut [u16], file: &[u8], observations: &[u8], colours: &mut [u8]) -> Traced
+    requires { ⌜ (now table ≡ replicate (length (now table)) 65535) × (statesIn large (now file) * 64 ≤ length (now table)) ⌝ }
+    ensures { λ r. ⌜ TracePromise large (now (file .entry)) (now (observations .entry)) (now (colours .entry)) r (now (colours .exit)) ⌝ }
+{
+    let answer = table::read(table, file);
     let Checked::Accepted(reading) = answer else {
         return passed_on(answer);
     };
@@ -46,7 +65,7 @@ pub fn trace(file: &[u8], observations: &[u8], colours: &mut [u8]) -> Traced
     }
     let hues = table::colours_of(file, reading);
     let start = reading.start;
-    ride_through(&table, &hues, start, observations, colours)
+    ride_through(table, &hues, start, observations, colours)
 }
 
 // A check's refusal as trace's own.
@@ -125,8 +144,8 @@ enum Step {
 
 impl Ride {
     // One observation more.
-    fn step(self, table: &[u16; 16384], label: usize) -> Step
-        requires { ⌜ (self .state < 256) × (label < 64) × (self .taken < 65535) ⌝ }
+    fn step(self, table: &[u16], label: usize) -> Step
+        requires { ⌜ (self .state < 256) × (label < 64) × (self .taken < 65535) × (self .state * 64 + 64 ≤ length (now table)) ⌝ }
         ensures { λ r. ⌜ stepCourse r ≡ courseOf (look (now (table .entry)) (self .state) label) (self .taken) ⌝ }
     {
         let state = self.state;
@@ -142,15 +161,15 @@ impl Ride {
     }
 }
 
-// Rides from the start through the observations, and writes the colour of each state on the way.
+// Rides from the start through the observations, and writes the colour of each state on the way. The table has a row for each.
 fn ride_through(
-    table: &[u16; 16384],
+    table: &[u16],
     hues: &[u8],
     start: usize,
     observations: &[u8],
     room: &mut [u8],
 ) -> Traced
-    requires { ⌜ (start < 256) × (length (now hues) ≡ 256) × (length (now observations) ≤ 65535) × (length (now observations) + 1 ≤ length (now room)) × ((i : ℕ) → getD (now observations) i 0 < 64) ⌝ }
+    requires { ⌜ (start < 256) × (length (now hues) ≡ 256) × (length (now observations) ≤ 65535) × (length (now observations) + 1 ≤ length (now room)) × ((i : ℕ) → getD (now observations) i 0 < 64) × (start * 64 + 64 ≤ length (now table)) × ((s y t : ℕ) → look (now table) s y ≡ some t → t * 64 + 64 ≤ length (now table)) ⌝ }
     ensures answer { λ r. ⌜ tracedOutcome r ≡ rideOutcome (halted (look (now (table .entry))) start (now (observations .entry))) ⌝ }
     ensures colours { λ r. ⌜ now (room .exit) ≡ laid (ridden (look (now (table .entry))) (λ s. getD (now (hues .entry)) s 0) start (now (observations .entry))) (now (room .entry)) ⌝ }
 {

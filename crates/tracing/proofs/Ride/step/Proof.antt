@@ -1,4 +1,5 @@
 -- `tracing::Ride::step` meets its contract. Assumes nothing.
+use native.Mathlib.Omega.{arith}
 use borrow.Author.Needs.{needs}
 use borrow.Author.Tests.{lt-ltb, le-ltb}
 use denote.Ref.{now}
@@ -14,15 +15,15 @@ add-t8 c = search needs
 
 returns : tie.Need-returns
 returns c =
-    let start = c .before .before in
+    let start = c .before .before .before in
     let a = start .args in
-    rw (look-here (now (a .table)) (a .self .state) (a .label) (start .pre .0) (start .pre .1), ← c .before .entry .ensures, lt-ltb _ _ (c .if1 .taken))
+    rw (look-here (now (a .table)) (a .self .state) (a .label) (omega arith) (start .pre .1), ← c .before .entry .ensures, lt-ltb _ _ (c .if1 .taken))
 
 returns-2 : tie.Need-returns-2
 returns-2 c =
-    let start = c .before .before in
+    let start = c .before .before .before in
     let a = start .args in
-    rw (look-here (now (a .table)) (a .self .state) (a .label) (start .pre .0) (start .pre .1), ← c .before .entry .ensures, le-ltb _ _ (c .if1 .left))
+    rw (look-here (now (a .table)) (a .self .state) (a .label) (omega arith) (start .pre .1), ← c .before .entry .ensures, le-ltb _ _ (c .if1 .left))
 
 pub step-spec : {M : Type 1} → statement M
 step-spec = tie.close (tie.spec entry-requires add-t8 returns returns-2)
