@@ -1,16 +1,15 @@
 -- Laws of the ride, one observation further, of the labels' test, and of the largest label.
 -- Assumes nothing.
-use mathlib.Core.Path.{_≡_, refl, sym, ap, ap₂, _∙_, fun-ext}
+use mathlib.Core.Path.{_≡_, refl, sym, ap, ap₂, _∙_}
 use mathlib.Core.Bool.{Bool, true, false}
 use mathlib.Core.List.{List, [], _∷_, _++_, append-assoc}
 use mathlib.Core.Option.{Option, none, some}
-use Prim.Native.Nat.{ℕ, zero, suc, _+_, _*_, _-_, _≤_, _<_}
-use native.Mathlib.Decide.{decLt}
+use Prim.Native.Nat.{ℕ, zero, suc, _+_, _*_, _≤_, _<_}
 use native.Mathlib.Numerals.{add-one}
 use native.Mathlib.Omega.{arith}
 use lib.Dec.{leb, ltb}
-use lib.ListN.{length, getD, set, take, drop, replicate, length-append, drop-of-length-le, List·getD-append, List·getD-eq-default}
-use lib.Seq.{drop-cons, take-at, getD-drop, getD-append-add}
+use lib.ListN.{length, getD, set, take, drop, length-append, drop-of-length-le}
+use lib.Seq.{drop-cons, take-at}
 use borrow.Author.Tests.{le-leb, lt-leb, leb-false, lt-ltb, le-ltb, ltb-true, ltb-false}
 use Rattle.bits.proofs.Runs.{store-more}
 use Rattle.meaning.specs.Pick.{pick}
@@ -18,7 +17,7 @@ use Rattle.meaning.specs.Trace.{ridden, later, halted}
 use Rattle.meaning.specs.TraceLaws.{ridden-on, ridden-stop, halted-on, halted-stop}
 use Rattle.meaning.specs.Cases.{clash, test}
 use Rattle.file.specs.Refusals.{laid}
-use Rattle.table.specs.Table.{entry, look}
+use Rattle.table.specs.Table.{look}
 use Rattle.tracing.specs.Answers.{onto, stop, courseOf}
 use Rattle.tracing.specs.Tracing.{firstOutside, larger, largest}
 
@@ -97,9 +96,6 @@ largest-inside m (y ∷ ys) h = test (ltb y (largest ys))
     (λ q. let l : y < m = rw q at h in rw (lt-leb m y l, largest-inside m ys (omega (arith, ltb-false y (largest ys) q))))
 
 -- ---- a step
-
-pub entry-target : (v : ℕ) → v < 256 → entry v ≡ some v
-entry-target v h = rw (lt-ltb v 256 h)
 
 pub course-onto : (o : Option ℕ) (taken s k : ℕ) → onto s k ≡ courseOf o taken → (o ≡ some s) × (k ≡ taken + 1)
 course-onto none taken s k h = clash cc
