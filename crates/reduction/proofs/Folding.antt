@@ -1,5 +1,5 @@
 -- What the code reduces is the filter in the file: its table, colours and names are the filter's. Assumes nothing.
-use Prim.Native.Nat.{ℕ, _≤_, _<_}
+use Prim.Native.Nat.{ℕ, _*_, _≤_, _<_}
 use mathlib.Core.Path.{_≡_, refl, sym, ap, ap₂, _∙_, fun-ext, subst}
 use mathlib.Core.Bool.{Bool, true}
 use mathlib.Core.List.{List, [], _∷_}
@@ -25,6 +25,7 @@ use Rattle.file.proofs.Tests.{Writable, writable-in-order, writable-write}
 use Rattle.file.proofs.Files.{length-filter, read-writable}
 use Rattle.file.proofs.Calls.{ReadIs}
 use Rattle.table.specs.Table.{look}
+use Rattle.table.proofs.Laws.{look-within}
 use Rattle.reduction.specs.Reducing.{countsOf}
 use Rattle.rounds.specs.Rounds.{taskOf}
 use Rattle.merging.specs.Merged.{Whole, Within, mergedBy, Foldable}
@@ -87,8 +88,8 @@ module _ (s : List ℕ) (r : Reading) (is : ReadIs large s r) where
 
     pub within : Within (look table) n (r .labels)
     within a y t e =
-        let v = fits F few ok .within a y t (sym (ap (λ (f : ℕ → ℕ → Option ℕ). f a y) by-table) ∙ e) in
-        (omega (arith, v .0, states-are), omega (arith, v .1, labels-are), omega (arith, v .2, states-are))
+        let v = look-within s _ table (is .answer) by-table a y t e in
+        (omega (arith, v .0, is .states-are), omega (arith, v .1, is .labels-are), omega (arith, v .2, is .states-are))
 
     module _ (names : List ℕ) (ended : take n names ≡ reduce F .names) where
       whole : Whole n (take n names)
@@ -108,7 +109,7 @@ module _ (s : List ℕ) (r : Reading) (is : ReadIs large s r) where
           ∙ ap₂ (λ (k m : ℕ). mergedOver (edge F) (colour F) k m (r .start) (take n names)) states-are labels-are
           ∙ ap₂ (λ (b : ℕ) (P : List ℕ). mergedOver (edge F) (colour F) (states F) (F .labels) b P) start-is ended
 
-      pub foldable : (answer list : ℕ) → Bytes s → length table ≡ 16384 → length colours ≡ 256 → length names ≡ 256 → length s ≤ answer → n ≤ list →
+      pub foldable : (answer list : ℕ) → Bytes s → n * 64 ≤ length table → length colours ≡ 256 → length names ≡ 256 → length s ≤ answer → n ≤ list →
           Foldable table colours names r answer list
       foldable answer list bytes lt lc ln la ll = record {
         few = few-states;

@@ -5,12 +5,12 @@ use file::Reading;
 use file::Refusal;
 ghost use mathlib.Core.Path.{_≡_};
 ghost use mathlib.Core.List.{_∷_, []};
-ghost use Prim.Native.Nat.{_≤_};
-ghost use lib.ListN.{length};
+ghost use Prim.Native.Nat.{_*_, _≤_};
+ghost use lib.ListN.{length, replicate};
 ghost use Rattle.meaning.specs.Trace.{edge};
 ghost use Rattle.meaning.specs.Reduced.{reduced, classList};
 ghost use Rattle.file.specs.Layout.{large, written};
-ghost use Rattle.file.specs.Contents.{filterIn};
+ghost use Rattle.file.specs.Contents.{statesIn, filterIn};
 ghost use Rattle.file.specs.Answers.{accepted, readingOutcome, checkedOutcome};
 ghost use Rattle.file.specs.Refusals.{onward, checkOf, laid};
 ghost use Rattle.table.specs.Table.{look};
@@ -49,12 +49,7 @@ pub fn reduce(file: &[u8], answer: &mut [u8], classes: &mut [u16]) -> Reduced
 }
 
 // The same with an empty table that has a row for each state.
-fn reduce_with(
-    table: &mut [u16],
-    file: &[u8],
-    answer: &mut [u8],
-    classes: &mut [u16],
-) -> Reduced
+fn reduce_with(table: &mut [u16], file: &[u8], answer: &mut [u8], classes: &mut [u16]) -> Reduced
     requires { ⌜ (now table ≡ replicate (length (now table)) 65535) × (statesIn large (now file) * 64 ≤ length (now table)) ⌝ }
     ensures { λ r. ⌜ ReducePromise large (now (file .entry)) (now (answer .entry)) (now (classes .entry)) r (now (answer .exit)) (now (classes .exit)) ⌝ }
 {

@@ -25,9 +25,9 @@ is-read c = reading-is large (now (c .args .file)) (c .args .reading) (c .pre .0
 
 -- the names at the end are the filter's
 ended : (c : tie.After-settled) →
-    take (c .before .before .before .before .before .before .before .args .reading .states) (c .settled .result .last .names) ≡ reduce (filterIn large (now (c .before .before .before .before .before .before .before .args .file))) .names
+    take (c .before .before .before .before .before .before .before .before .args .reading .states) (c .settled .result .last .names) ≡ reduce (filterIn large (now (c .before .before .before .before .before .before .before .before .args .file))) .names
 ended c =
-    let start = c .before .before .before .before .before .before .before in
+    let start = c .before .before .before .before .before .before .before .before in
     let a = start .args in
     let colours = c .before .before .before .colours-of in
     c .settled .ensures .1 .1 .0
@@ -38,7 +38,7 @@ colours-of-requires c κs = search needs
 
 settled-requires : tie.Need-settled-requires
 settled-requires c κs =
-    let start = c .before .before .before .before .before .before in
+    let start = c .before .before .before .before .before .before .before in
     let a = start .args in
     let is = is-read start in
     let colours = c .before .before .colours-of in
@@ -48,12 +48,13 @@ settled-requires c κs =
       few-labels (now (a .file)) (a .reading) is,
       colours .ensures .1,
       λ s y t e. inside s y t e .2,
+      start .pre .2,
     )
 
 merged-requires : tie.Need-merged-requires
 merged-requires c κs =
     let end = c .before .before .before .before .before .before .before in
-    let start = end .before .before .before .before .before .before .before in
+    let start = end .before .before .before .before .before .before .before .before in
     let a = start .args in
     let colours = end .before .before .before .colours-of in
     let bytes : Bytes (now (a .file)) = λ i. omega (arith, end .before .before .before .before .before .before .shared-slice-known .given i) in
@@ -69,14 +70,17 @@ same-length c = search needs
 same-length-2 : tie.Need-same-length-2
 same-length-2 c = search needs
 
+same-length-3 : tie.Need-same-length-3
+same-length-3 c = search needs
+
 returns : tie.Need-returns
 returns c =
-    let end = c .before .before .before .before .before .before .before .before .before .before .before .before .before in
-    let start = end .before .before .before .before .before .before .before in
+    let end = c .before .before .before .before .before .before .before .before .before .before .before .before .before .before .before in
+    let start = end .before .before .before .before .before .before .before .before in
     let a = start .args in
     let T = now (a .table) in
     let colours = end .before .before .before .colours-of in
-    let made = c .before .before .before .before .before .merged .ensures in
+    let made = c .before .before .before .before .before .before .before .merged .ensures in
     let settled = end .settled .ensures in
     let is = is-read start in
     let s = now (a .file) in (
@@ -98,4 +102,5 @@ fold-spec =
     wide-requires
     same-length
     same-length-2
+    same-length-3
     returns)
