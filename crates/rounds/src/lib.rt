@@ -127,6 +127,9 @@ fn lowest(labels: u64) -> usize
 fn behind_highest(labels: u64, m: usize) -> usize
     ensures { λ r. ⌜ (r ≤ m) × ((y : ℕ) → r ≤ y → y < m → labels / 2 ^ y % 2 ≡ 0) ⌝ }
 {
+    if labels == 0 {
+        return 0; // most pairs share no label
+    }
     let end = 64 - u64::leading_zeros(labels) as usize;
     if end < m { end } else { m }
 }

@@ -146,18 +146,21 @@ module _ (T₀ T : List ℕ) (from to y : ℕ) (hf : from * 64 + y < length T) (
   read : (s : ℕ) → s * 64 + y < length T → entry (getD T (s * 64 + y) 0) ≡ look T₀ s y
   read s h = sym (look-here T s y h hy) ∙ same s
 
-  pub give-kept : getD T (to * 64 + y) 0 < 256 → look T ≡ given (look T₀) from to (y + 1)
-  give-kept h =
-      let own : some (getD T (to * 64 + y) 0) ≡ look T₀ to y = sym (rw (lt-ltb _ _ h)) ∙ read to ht in
-      given-more (look T₀) from to y (look T) (same to ∙ rw (← own))
-      (λ s z _. ap (λ (f : ℕ → ℕ → Option ℕ). f s z) so-far)
-
-  pub give-stored : 256 ≤ getD T (to * 64 + y) 0 → look (set T (to * 64 + y) (getD T (from * 64 + y) 0)) ≡ given (look T₀) from to (y + 1)
-  give-stored h =
-      let v = getD T (from * 64 + y) 0 in
-      let lacks : none ≡ look T₀ to y = sym (rw (le-ltb _ _ h)) ∙ read to ht in
-      given-more (look T₀) from to y (look (set T (to * 64 + y) v)) (look-stored T to y v ht hy ∙ read from hf ∙ rw (← lacks))
+  -- what is stored is the state's own edge, or else the other's
+  stored-there : (v : ℕ) → entry v ≡ or (look T₀ to y) (look T₀ from y) → look (set T (to * 64 + y) v) ≡ given (look T₀) from to (y + 1)
+  stored-there v e =
+      given-more (look T₀) from to y (look (set T (to * 64 + y) v)) (look-stored T to y v ht hy ∙ e)
       (λ s z other. look-kept T to y v ht hy s z other ∙ ap (λ (f : ℕ → ℕ → Option ℕ). f s z) so-far)
+
+  pub give-own : (v : ℕ) → v ≡ getD T (to * 64 + y) 0 → getD T (to * 64 + y) 0 < 256 → look (set T (to * 64 + y) v) ≡ given (look T₀) from to (y + 1)
+  give-own v e h =
+      let own : some (getD T (to * 64 + y) 0) ≡ look T₀ to y = sym (rw (lt-ltb _ _ h)) ∙ read to ht in
+      stored-there v (rw (e, ← own, lt-ltb _ _ h))
+
+  pub give-other : (v : ℕ) → v ≡ getD T (from * 64 + y) 0 → 256 ≤ getD T (to * 64 + y) 0 → look (set T (to * 64 + y) v) ≡ given (look T₀) from to (y + 1)
+  give-other v e h =
+      let lacks : none ≡ look T₀ to y = sym (rw (le-ltb _ _ h)) ∙ read to ht in
+      stored-there v (ap entry e ∙ read from hf ∙ rw (← lacks))
 
 -- ---- the table of a file
 

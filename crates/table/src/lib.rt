@@ -156,9 +156,10 @@ pub fn give(table: &mut [u16], from: usize, to: usize, m: usize)
 {
     let mut y = 0;
     while y < m {
-        if 256 <= entry(table, to, y) {
-            table[to * 64 + y] = table[from * 64 + y];
-        }
+        // Stored either way, so that the compiler can take many labels at a time.
+        let own = table[to * 64 + y];
+        let other = table[from * 64 + y];
+        table[to * 64 + y] = if own < 256 { own } else { other };
         y += 1;
     }
 }
