@@ -7,7 +7,7 @@ use mathlib.Core.Option.{Option, none, some}
 use native.Mathlib.Omega.{arith}
 use lib.Dec.{eqb}
 use lib.ListN.{length, take, drop, List·getD-append, length-append}
-use lib.Seq.{length-take-le}
+use lib.Seq.{take-append-seam}
 use Rattle.meaning.specs.Search.{least, count, tab, at}
 use Rattle.meaning.specs.SearchLaws.{at-tab, length-tab, tab-cong, count-max}
 use Rattle.meaning.specs.Classes.{named, classes, number}
@@ -20,6 +20,14 @@ use Rattle.file.specs.Refusals.{laid}
 use Rattle.table.specs.Table.{look}
 use Rattle.merging.specs.Merged.{Whole, Within, Rows, Held, Listed, led, rowEdge, filterOf, mergedBy, Foldable}
 use Rattle.merging.proofs.Merging.{tab-all}
+
+-- the names of all classes, ascending
+abbrev pub ordered : ℕ → List ℕ → List ℕ
+ordered n P = tab (classes n P) (nameOf n P)
+
+-- the values laid into a room are its first
+pub take-laid : (values room l : List ℕ) (k : ℕ) → l ≡ laid values room → k ≡ length values → take k l ≡ values
+take-laid values room l k e h = ap₂ (λ (i : ℕ) (xs : List ℕ). take i xs) h e ∙ take-append-seam values (drop (length values) room)
 
 row-cong : (f g : ℕ → Option ℕ) (s y : ℕ) → ((i : ℕ) → i < y → f i ≡ g i) → row f s y ≡ row g s y
 unfolding row
@@ -49,25 +57,31 @@ module _ (T₀ colours names : List ℕ) (r : Reading) (answer list-room : ℕ) 
   unfolding classes
   few-classes = omega (arith, can .few, count-max (named P) n)
 
-  -- names by their numbers are states
-  below : (order : List ℕ) (k : ℕ) → k ≡ classes n P → ((i : ℕ) → i < k → at order i ≡ nameOf n P i) → (i : ℕ) → i < k → at order i < n
-  below order k e h i l = omega (arith, h i l, name-is n P i (omega (arith, e)) .0)
+  module _ (order : List ℕ) (order-is : order ≡ ordered n P) where
+    pub order-long : length order ≡ classes n P
+    order-long = ap length order-is ∙ length-tab (classes n P) (nameOf n P)
 
-  pub named-low : (order : List ℕ) (k : ℕ) → k ≡ classes n P → ((i : ℕ) → i < k → at order i ≡ nameOf n P i) → Rows order k
-  named-low order k e h i l = omega (arith, below order k e h i l, can .few)
+    named-at : (i : ℕ) → i < length order → at order i ≡ nameOf n P i
+    named-at i l = ap (λ (names : List ℕ). at names i) order-is ∙ at-tab (classes n P) (nameOf n P) i (omega (arith, order-long))
 
-  pub named-held : (T order : List ℕ) (k : ℕ) → length T ≡ length T₀ → k ≡ classes n P → ((i : ℕ) → i < k → at order i ≡ nameOf n P i) → Held T order k
-  named-held T order k same e h i l = omega (arith, below order k e h i l, can .table-long, same)
+    -- names are states
+    below : (i : ℕ) → i < length order → at order i < n
+    below i l = omega (arith, named-at i l, name-is n P i (omega (arith, order-long)) .0)
+
+    pub named-low : Rows order
+    named-low i l = omega (arith, below i l, can .few)
+
+    pub named-held : (T : List ℕ) → length T ≡ length T₀ → Held T order
+    named-held T same i l = omega (arith, below i l, can .table-long, same)
 
   -- What the steps before the writing have made: the classes numbered, the edges gathered, the colours of the classes.
-  pub record Ready (T order list hues : List ℕ) (k : ℕ) : Type 0 where
-    pub counted : k ≡ classes n P
-    pub ordered : (i : ℕ) → i < k → at order i ≡ nameOf n P i
+  pub record Ready (T order list hues : List ℕ) : Type 0 where
+    pub order-is : order ≡ ordered n P
     pub numbers : (s : ℕ) → s < n → at list s ≡ number P s
     pub long : n ≤ length list
     pub within : Within (look T) n (r .labels)
     pub rows : (c y : ℕ) → c < n → at P c ≡ c → y < r .labels → look T c y ≡ look T₀ (least (λ s. eqb (at P s) c && has (look T₀ s y)) n) y
-    pub hues-are : hues ≡ tab k (λ i. at colours (at order i))
+    pub hues-are : hues ≡ tab (length order) (λ i. at colours (at order i))
 
   pub numbers-laid : (list list₀ : List ℕ) → list ≡ laid (tab n (number P)) list₀ → (s : ℕ) → s < n → at list s ≡ number P s
   numbers-laid list list₀ e s h =
@@ -75,14 +89,14 @@ module _ (T₀ colours names : List ℕ) (r : Reading) (answer list-room : ℕ) 
       ∙ List·getD-append (tab n (number P)) (drop (length (tab n (number P))) list₀) 0 s (omega (arith, length-tab n (number P)))
       ∙ at-tab n (number P) s h
 
-  module _ (T order list hues : List ℕ) (k : ℕ) (ready : Ready T order list hues k) where
+  module _ (T order list hues : List ℕ) (ready : Ready T order list hues) where
     pub targets-listed : Listed T list (2 ^ 8)
     targets-listed s y t e =
         let h = ready .within s y t e .2 in
         (omega (arith, ready .long), omega (arith, ready .numbers t h, number-lt n P right t (seat t h), few-classes))
 
-    pub hues-long : k ≡ length hues
-    hues-long = sym (ap length (ready .hues-are) ∙ length-tab k _)
+    pub hues-long : length order ≡ length hues
+    hues-long = sym (ap length (ready .hues-are) ∙ length-tab (length order) _)
 
     -- the edge that is written is the edge of the class
     led-mapped : (o : Option ℕ) → ((t : ℕ) → o ≡ some t → t < n) → led list o ≡ mapped P o
@@ -90,22 +104,22 @@ module _ (T₀ colours names : List ℕ) (r : Reading) (answer list-room : ℕ) 
     led-mapped none h = refl
     led-mapped (some t) h = ap some (ready .numbers t (h t refl))
 
-    same-edge : (i y : ℕ) → i < k → y < r .labels → rowEdge T order list i y ≡ edge′ (look T₀) n P i y
+    same-edge : (i y : ℕ) → i < length order → y < r .labels → rowEdge T order list i y ≡ edge′ (look T₀) n P i y
     unfolding edge′ class-edge
     same-edge i y h l =
-        let is = name-is n P i (omega (arith, ready .counted)) in
+        let is = name-is n P i (omega (arith, order-long order (ready .order-is))) in
         let c = nameOf n P i in
         let found = least (λ s. eqb (at P s) c && has (look T₀ s y)) n in
-        ap (λ (s : ℕ). led list (look T s y)) (ready .ordered i h)
+        ap (λ (s : ℕ). led list (look T s y)) (named-at order (ready .order-is) i h)
         ∙ ap (led list) (ready .rows c y (is .0) (is .2) l)
         ∙ led-mapped (look T₀ found y) (λ t e. can .within found y t e .2)
 
-    pub filter-made : filterOf hues (r .labels) (at list (r .start)) (rowEdge T order list) k ≡ mergedBy T₀ colours names r
+    pub filter-made : filterOf hues (r .labels) (at list (r .start)) (rowEdge T order list) (length order) ≡ mergedBy T₀ colours names r
     filter-made =
         let K = classes n P in
-        let hues-of : tab k (at hues) ≡ tab K (λ i. at colours (nameOf n P i)) =
+        let hues-of : tab (length order) (at hues) ≡ tab K (λ i. at colours (nameOf n P i)) =
         ap (λ (i : ℕ). tab i (at hues)) hues-long ∙ tab-all hues ∙ ready .hues-are
-        ∙ tab-cong k _ _ (λ i h. ap (at colours) (ready .ordered i h)) ∙ ap (λ (i : ℕ). tab i (λ j. at colours (nameOf n P j))) (ready .counted) in
-        let edges-of : listed (rowEdge T order list) k (r .labels) ≡ listed (edge′ (look T₀) n P) K (r .labels) =
-        listed-cong _ _ k (r .labels) same-edge ∙ ap (λ (i : ℕ). listed (edge′ (look T₀) n P) i (r .labels)) (ready .counted) in
+        ∙ tab-cong (length order) _ _ (λ i h. ap (at colours) (named-at order (ready .order-is) i h)) ∙ ap (λ (i : ℕ). tab i (λ j. at colours (nameOf n P j))) (order-long order (ready .order-is)) in
+        let edges-of : listed (rowEdge T order list) (length order) (r .labels) ≡ listed (edge′ (look T₀) n P) K (r .labels) =
+        listed-cong _ _ (length order) (r .labels) same-edge ∙ ap (λ (i : ℕ). listed (edge′ (look T₀) n P) i (r .labels)) (order-long order (ready .order-is)) in
         λ i. record { colours = hues-of i; labels = r .labels; start = ready .numbers (r .start) (can .begins) i; edges = edges-of i }

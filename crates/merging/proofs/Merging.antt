@@ -9,8 +9,7 @@ use native.Mathlib.Nat.{mul-add}
 use native.Mathlib.Omega.{arith}
 use native.Mathlib.Numerals.{add-one}
 use lib.Dec.{eqb, ltb}
-use lib.ListN.{length, getD, set, take, drop, length-set, length-append, List·getD-append}
-use lib.Seq.{getD-set-same, getD-set-other}
+use lib.ListN.{length, getD, set, take, drop, length-append, List·getD-append}
 use borrow.Author.Tests.{eqb-true, eqb-false, eq-eqb, ne-eqb, lt-ltb, le-ltb, ltb-true, ltb-false}
 use Rattle.bits.proofs.Runs.{store-more}
 use Rattle.meaning.specs.Pick.{pick}
@@ -27,6 +26,7 @@ use Rattle.bits.specs.Bits.{putFields}
 use Rattle.file.specs.declared.Profile.{Profile}
 use Rattle.file.specs.Layout.{edgeBits, edgeWidths, flat, putEdges}
 use Rattle.file.proofs.EdgeLists.{edges-behind}
+use Rattle.file.specs.Refusals.{laid}
 use Rattle.table.specs.Table.{look, or, given}
 use Rattle.table.proofs.Laws.{look-here}
 use Rattle.merging.specs.Merged.{Whole, Within, led, rowEdge}
@@ -36,7 +36,17 @@ whole-low names n w s h = omega (arith, w .low s h, at-take names n s h)
 
 -- ---- classes numbered
 
-module _ (names : List ℕ) (n : ℕ) (w : Whole n (take n names)) (list₀ : List ℕ) (enough : n ≤ length list₀) where
+-- a value stored behind those that are there, in a room
+pub stored : (f : ℕ → ℕ) (room l : List ℕ) (s v : ℕ) → s < length room → l ≡ tab s f ++ drop s room → v ≡ f s → set l s v ≡ tab (s + 1) f ++ drop (s + 1) room
+stored f room l s v h is e =
+    ap (λ (l : List ℕ). set l s v) is ∙ store-more (tab s f) room s v (length-tab s f) h
+    ∙ ap (λ (l : List ℕ). l ++ drop (s + 1) room) (ap (λ (z : ℕ). tab s f ++ (z ∷ [])) e ∙ sym (tab-snoc s f) ∙ ap (λ (z : ℕ). tab z f) (sym (add-one s)))
+
+-- values that fill k entries of a room are laid into it
+pub stored-all : (f : ℕ → ℕ) (room l : List ℕ) (s k : ℕ) → l ≡ tab s f ++ drop s room → s ≡ k → l ≡ laid (tab k f) room
+stored-all f room l s k is e = is ∙ ap (λ (i : ℕ). tab i f ++ drop i room) e ∙ ap (λ (i : ℕ). tab k f ++ drop i room) (sym (length-tab k f))
+
+module _ (names : List ℕ) (n : ℕ) (w : Whole n (take n names)) (list₀ order₀ : List ℕ) (enough : n ≤ length list₀) (roomy : n ≤ length order₀) where
   abbrev P : List ℕ
   P = take n names
 
@@ -50,35 +60,25 @@ module _ (names : List ℕ) (n : ℕ) (w : Whole n (take n names)) (list₀ : Li
   pub record Numbering (list order : List ℕ) (k s : ℕ) : Type 0 where
     pub counted : k ≡ count (named P) s
     pub few : k ≤ s
-    pub long : length order ≡ 256
     pub list-is : list ≡ tab s (number P) ++ drop s list₀
-    pub names-are : (i : ℕ) → i < k → at order i ≡ nameOf n P i
+    pub order-is : order ≡ tab k (nameOf n P) ++ drop k order₀
 
-  pub numbering-begins : (order : List ℕ) → length order ≡ 256 → Numbering list₀ order 0 0
+  pub numbering-begins : Numbering list₀ order₀ 0 0
   unfolding count tab
-  numbering-begins order l = record { counted = refl; few = omega arith; long = l; list-is = refl; names-are = λ i h. absurd (omega arith) }
-
-  stored : (list : List ℕ) (s v : ℕ) → s < n → list ≡ tab s (number P) ++ drop s list₀ → v ≡ number P s → set list s v ≡ tab (s + 1) (number P) ++ drop (s + 1) list₀
-  stored list s v h is e =
-      ap (λ (l : List ℕ). set l s v) is ∙ store-more (tab s (number P)) list₀ s v (length-tab s (number P)) (omega arith)
-      ∙ ap (λ (l : List ℕ). l ++ drop (s + 1) list₀) (ap (λ (z : ℕ). tab s (number P) ++ (z ∷ [])) e ∙ sym (tab-snoc s (number P)) ∙ ap (λ (z : ℕ). tab z (number P)) (sym (add-one s)))
+  numbering-begins = record { counted = refl; few = omega arith; list-is = refl; order-is = refl }
 
   module _ (list order : List ℕ) (k s : ℕ) (r : Numbering list order k s) (h : s < n) where
-    pub numbering-own : n ≤ 256 → at names s ≡ s → Numbering (set list s k) (set order k (at names s)) (k + 1) (s + 1)
+    pub numbering-own : at names s ≡ s → Numbering (set list s k) (set order k (at names s)) (k + 1) (s + 1)
     unfolding number
-    numbering-own few e =
+    numbering-own e =
         let own : at P s ≡ s = at-take names n s h ∙ e in
         let mine : k ≡ number P s = r .counted ∙ ap (count (named P)) (sym own) in
+        let name : nameOf n P k ≡ at P s = ap (nameOf n P) mine ∙ name-of n P right s (seat s h) in
         record {
           counted = ap (λ (z : ℕ). z + 1) (r .counted) ∙ sym (count-hit (named P) s (eq-eqb _ _ own));
           few = omega (arith, r .few);
-          long = length-set order k (at names s) ∙ r .long;
-          list-is = stored list s k h (r .list-is) mine;
-          names-are = λ i l. test (eqb k i)
-              (λ q. let q′ = eqb-true k i q in
-              subst (λ (z : ℕ). at (set order k (at names s)) z ≡ nameOf n P z) q′
-              (getD-set-same order k (at names s) 0 (omega (arith, r .few, r .long)) ∙ e ∙ sym own ∙ sym (ap (nameOf n P) mine ∙ name-of n P right s (seat s h))))
-              (λ q. let q′ = eqb-false k i q in getD-set-other order k i (at names s) 0 (λ z. q′ (sym z)) ∙ r .names-are i (omega (arith, q′)));
+          list-is = stored (number P) list₀ list s k (omega arith) (r .list-is) mine;
+          order-is = stored (nameOf n P) order₀ order k (at names s) (omega (arith, r .few)) (r .order-is) (e ∙ sym own ∙ sym name);
         }
 
     pub numbering-other : (at names s ≡ s → ⊥) → Numbering (set list s (at list (at names s))) order k (s + 1)
@@ -94,9 +94,8 @@ module _ (names : List ℕ) (n : ℕ) (w : Whole n (take n names)) (list₀ : Li
         record {
           counted = r .counted ∙ sym (count-miss (named P) s (ne-eqb _ _ other));
           few = omega (arith, r .few);
-          long = r .long;
-          list-is = stored list s (at list (at names s)) h (r .list-is) read;
-          names-are = r .names-are;
+          list-is = stored (number P) list₀ list s (at list (at names s)) (omega arith) (r .list-is) read;
+          order-is = r .order-is;
         }
 
 -- ---- edges gathered

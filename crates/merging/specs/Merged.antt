@@ -24,13 +24,13 @@ pub record Whole (n : ℕ) (P : List ℕ) : Type 0 where
 abbrev pub Within : (ℕ → ℕ → Option ℕ) → ℕ → ℕ → Type 0
 Within next n m = (s y t : ℕ) → next s y ≡ some t → (s < n) × (y < m) × (t < n)
 
--- The names of k classes are below 256, as all states are.
-abbrev pub Rows : List ℕ → ℕ → Type 0
-Rows names k = (i : ℕ) → i < k → at names i < 256
+-- The names of classes are below 256, as all states are.
+abbrev pub Rows : List ℕ → Type 0
+Rows names = (i : ℕ) → i < length names → at names i < 256
 
--- The table holds the rows of k classes by their names.
-abbrev pub Held : List ℕ → List ℕ → ℕ → Type 0
-Held table names k = (i : ℕ) → i < k → at names i * 64 + 64 ≤ length table
+-- The table holds the rows of classes by their names.
+abbrev pub Held : List ℕ → List ℕ → Type 0
+Held table names = (i : ℕ) → i < length names → at names i * 64 + 64 ≤ length table
 
 -- Each target of the table's edges has a number in the list, below a limit.
 abbrev pub Listed : List ℕ → List ℕ → ℕ → Type 0

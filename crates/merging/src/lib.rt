@@ -23,26 +23,20 @@ ghost use Rattle.file.specs.Code.{Usable};
 ghost use Rattle.table.specs.Table.{look};
 ghost use Rattle.merging.specs.Merged.{Whole, Within, Rows, Held, Listed, led, rowEdge, filterOf, mergedBy, Foldable};
 
-// The classes by ascending name: how many, and the name of each.
-struct Order {
-    count: usize,
-    names: [u16; 256],
-}
-
 fn nameless() -> [u16; 256]
     ensures { λ r. ⌜ length r ≡ 256 ⌝ }
 {
     [65535; 256]
 }
 
-// Numbers the classes 0 upward by ascending name, and writes the number of each state.
-fn numbered(names: &[u16; 256], n: usize, list: &mut [u16]) -> Order
-    requires { ⌜ (n ≤ 256) × (length (now names) ≡ 256) × (n ≤ length (now list)) × Whole n (take n (now names)) ⌝ }
+// Numbers the classes 0 upward by ascending name, writes the number of each state and the name of each class, and answers how many
+// classes there are.
+fn numbered(names: &[u16; 256], n: usize, list: &mut [u16], order: &mut [u16]) -> usize
+    requires { ⌜ (n ≤ 256) × (length (now names) ≡ 256) × (n ≤ length (now list)) × Whole n (take n (now names)) × (n ≤ length (now order)) ⌝ }
     ensures list { λ r. ⌜ now (list .exit) ≡ laid (tab n (number (take n (now (names .entry))))) (now (list .entry)) ⌝ }
-    ensures count { λ r. ⌜ r .count ≡ classes n (take n (now (names .entry))) ⌝ }
-    ensures names { λ r. ⌜ ((k : ℕ) → k < r .count → at (r .names) k ≡ nameOf n (take n (now (names .entry))) k) ⌝ }
+    ensures count { λ r. ⌜ r ≡ classes n (take n (now (names .entry))) ⌝ }
+    ensures names { λ r. ⌜ now (order .exit) ≡ laid (tab (classes n (take n (now (names .entry)))) (nameOf n (take n (now (names .entry))))) (now (order .entry)) ⌝ }
 {
-    let mut order = nameless();
     let mut k: usize = 0;
     let mut s: usize = 0;
     while s < n {
@@ -56,10 +50,7 @@ fn numbered(names: &[u16; 256], n: usize, list: &mut [u16]) -> Order
         }
         s += 1;
     }
-    Order {
-        count: k,
-        names: order,
-    }
+    k
 }
 
 fn wide(x: u16) -> usize
@@ -74,20 +65,16 @@ fn colourless() -> [u8; 256]
     [0; 256]
 }
 
-// The colour of each class: that of the state that names it.
-fn colours_by(colours: &[u8; 256], order: Order) -> [u8; 256]
-    requires { ⌜ (order .count ≤ 256) × (length (now colours) ≡ 256) × Rows (order .names) (order .count) ⌝ }
-    ensures { λ r. ⌜ (take (order .count) r ≡ tab (order .count) (λ k. at (now (colours .entry)) (at (order .names) k))) × (length r ≡ 256) ⌝ }
+// Writes the colour of each class: that of the state that names it.
+fn colours_by(colours: &[u8; 256], order: &[u16], hues: &mut [u8])
+    requires { ⌜ (length (now order) ≤ length (now hues)) × (length (now colours) ≡ 256) × Rows (now order) ⌝ }
+    ensures { λ _. ⌜ now (hues .exit) ≡ laid (tab (length (now (order .entry))) (λ k. at (now (colours .entry)) (at (now (order .entry)) k))) (now (hues .entry)) ⌝ }
 {
-    let count = order.count;
-    let names = order.names;
-    let mut hues = colourless();
     let mut k = 0;
-    while k < count {
-        hues[k] = colours[wide(names[k])];
+    while k < order.len() {
+        hues[k] = colours[wide(order[k])];
         k += 1;
     }
-    hues
 }
 
 // Gives the state that names a class the edges of all its members: at each label that of the first member that has one.
@@ -122,16 +109,14 @@ fn row_length(table: &[u16], s: usize, m: usize) -> usize
 }
 
 // How many edges the classes have.
-fn edge_count(table: &[u16], order: Order, m: usize) -> usize
-    requires { ⌜ (order .count ≤ 256) × (m ≤ 64) × Rows (order .names) (order .count) × Held (now table) (order .names) (order .count) ⌝ }
-    ensures { λ r. ⌜ (r ≡ cells (λ k y. has (look (now (table .entry)) (at (order .names) k) y)) (order .count) m) × (r ≤ 16384) ⌝ }
+fn edge_count(table: &[u16], order: &[u16], m: usize) -> usize
+    requires { ⌜ (length (now order) ≤ 256) × (m ≤ 64) × Rows (now order) × Held (now table) (now order) ⌝ }
+    ensures { λ r. ⌜ (r ≡ cells (λ k y. has (look (now (table .entry)) (at (now (order .entry)) k) y)) (length (now (order .entry))) m) × (r ≤ 16384) ⌝ }
 {
-    let count = order.count;
-    let names = order.names;
     let mut e = 0;
     let mut k = 0;
-    while k < count {
-        e += row_length(table, wide(names[k]), m);
+    while k < order.len() {
+        e += row_length(table, wide(order[k]), m);
         k += 1;
     }
     e
@@ -175,19 +160,17 @@ fn put_rows(
     part: &mut [u8],
     bit: usize,
     table: &[u16],
-    order: Order,
+    order: &[u16],
     m: usize,
     list: &[u16],
 )
-    requires { ⌜ Usable p × (bit ≤ 7) × (order .count ≤ 256) × (order .count ≤ 2 ^ p .states) × (m ≤ 64) × (m ≤ 2 ^ p .labels) × Rows (order .names) (order .count) × Listed (now table) (now list) (2 ^ p .states) × Held (now table) (order .names) (order .count) ⌝ }
-    ensures { λ _. ⌜ now (part .exit) ≡ putEdges p (now (part .entry)) bit (listed (rowEdge (now (table .entry)) (order .names) (now (list .entry))) (order .count) m) ⌝ }
+    requires { ⌜ Usable p × (bit ≤ 7) × (length (now order) ≤ 256) × (length (now order) ≤ 2 ^ p .states) × (m ≤ 64) × (m ≤ 2 ^ p .labels) × Rows (now order) × Listed (now table) (now list) (2 ^ p .states) × Held (now table) (now order) ⌝ }
+    ensures { λ _. ⌜ now (part .exit) ≡ putEdges p (now (part .entry)) bit (listed (rowEdge (now (table .entry)) (now (order .entry)) (now (list .entry))) (length (now (order .entry))) m) ⌝ }
 {
-    let count = order.count;
-    let names = order.names;
     let mut pen = pen::begin(part, bit);
     let mut k = 0;
-    while k < count {
-        pen = put_row(p, part, pen, table, wide(names[k]), k, m, list);
+    while k < order.len() {
+        pen = put_row(p, part, pen, table, wide(order[k]), k, m, list);
         k += 1;
     }
     pen::finish(part, pen);
@@ -199,12 +182,12 @@ fn put_edges(
     room: &mut [u8],
     bit: usize,
     table: &[u16],
-    order: Order,
+    order: &[u16],
     m: usize,
     list: &[u16],
 )
-    requires { ⌜ Usable p × (bit / 8 ≤ length (now room)) × (order .count ≤ 256) × (order .count ≤ 2 ^ p .states) × (m ≤ 64) × (m ≤ 2 ^ p .labels) × Rows (order .names) (order .count) × Listed (now table) (now list) (2 ^ p .states) × Held (now table) (order .names) (order .count) ⌝ }
-    ensures { λ _. ⌜ now (room .exit) ≡ putEdges p (now (room .entry)) bit (listed (rowEdge (now (table .entry)) (order .names) (now (list .entry))) (order .count) m) ⌝ }
+    requires { ⌜ Usable p × (bit / 8 ≤ length (now room)) × (length (now order) ≤ 256) × (length (now order) ≤ 2 ^ p .states) × (m ≤ 64) × (m ≤ 2 ^ p .labels) × Rows (now order) × Listed (now table) (now list) (2 ^ p .states) × Held (now table) (now order) ⌝ }
+    ensures { λ _. ⌜ now (room .exit) ≡ putEdges p (now (room .entry)) bit (listed (rowEdge (now (table .entry)) (now (order .entry)) (now (list .entry))) (length (now (order .entry))) m) ⌝ }
 {
     let from = bit / 8;
     put_rows(p, &mut room[from..], bit % 8, table, order, m, list);
@@ -217,15 +200,15 @@ fn write(
     hues: &[u8],
     start: usize,
     table: &[u16],
-    order: Order,
+    order: &[u16],
     m: usize,
     list: &[u16],
 ) -> usize
-    requires { ⌜ Usable p × (order .count ≡ length (now hues)) × (m ≤ 64) × Rows (order .names) (order .count) × Listed (now table) (now list) (2 ^ p .states) × (writeOf p (filterOf (now hues) m start (rowEdge (now table) (order .names) (now list)) (order .count)) true (length (now room)) ≡ accepted (lengthOf p (filterOf (now hues) m start (rowEdge (now table) (order .names) (now list)) (order .count)) ∷ [])) × Held (now table) (order .names) (order .count) ⌝ }
-    ensures bytes { λ r. ⌜ now (room .exit) ≡ laid (written p (filterOf (now (hues .entry)) m start (rowEdge (now (table .entry)) (order .names) (now (list .entry))) (order .count))) (now (room .entry)) ⌝ }
-    ensures length { λ r. ⌜ r ≡ lengthOf p (filterOf (now (hues .entry)) m start (rowEdge (now (table .entry)) (order .names) (now (list .entry))) (order .count)) ⌝ }
+    requires { ⌜ Usable p × (length (now order) ≡ length (now hues)) × (m ≤ 64) × Rows (now order) × Listed (now table) (now list) (2 ^ p .states) × (writeOf p (filterOf (now hues) m start (rowEdge (now table) (now order) (now list)) (length (now order))) true (length (now room)) ≡ accepted (lengthOf p (filterOf (now hues) m start (rowEdge (now table) (now order) (now list)) (length (now order))) ∷ [])) × Held (now table) (now order) ⌝ }
+    ensures bytes { λ r. ⌜ now (room .exit) ≡ laid (written p (filterOf (now (hues .entry)) m start (rowEdge (now (table .entry)) (now (order .entry)) (now (list .entry))) (length (now (order .entry))))) (now (room .entry)) ⌝ }
+    ensures length { λ r. ⌜ r ≡ lengthOf p (filterOf (now (hues .entry)) m start (rowEdge (now (table .entry)) (now (order .entry)) (now (list .entry))) (length (now (order .entry)))) ⌝ }
 {
-    let k = order.count;
+    let k = order.len();
     let e = edge_count(table, order, m);
     file::header::put(p, room, k, m, start, e);
     bits::put_run(room, layout::header_bits(p), p.colour, hues);
@@ -240,7 +223,8 @@ pub struct Made {
     pub length: usize,
 }
 
-// Writes the file of the classes with these names, and the number of each state. The edges are gathered in the table itself.
+// Writes the file of the classes with these names, and the number of each state. The edges are gathered in the table itself, and the
+// lists of names and colours are lent to each step, so that none is copied.
 pub fn merged(
     table: &mut [u16],
     colours: &[u8; 256],
@@ -256,10 +240,11 @@ pub fn merged(
 {
     let m = reading.labels;
     let n = reading.states;
-    let order = numbered(names, n, list);
+    let mut order = nameless();
+    let count = numbered(names, n, list, &mut order);
     gather(table, names, m, n);
-    let hues = colours_by(colours, order);
-    let count = order.count;
+    let mut hues = colourless();
+    colours_by(colours, &order[..count], &mut hues);
     let first = reading.start;
     let start = wide(list[first]);
     let length = write(
@@ -268,7 +253,7 @@ pub fn merged(
         &hues[..count],
         start,
         table,
-        order,
+        &order[..count],
         m,
         list,
     );

@@ -1,43 +1,43 @@
 -- `merging::colours_by` meets its contract. Assumes nothing.
 use mathlib.Core.Path.{_≡_, refl, ap, _∙_}
+use mathlib.Core.List.{_++_}
 use Prim.Native.Nat.{ℕ, _-_, _≤_}
 use native.Mathlib.Nat.{le-antisymm}
 use native.Mathlib.Omega.{arith}
 use borrow.Author.Needs.{needs}
 use denote.Ref.{now}
-use lib.ListN.{length, take, length-set}
+use lib.ListN.{length, drop, length-set}
 use Rattle.meaning.specs.Search.{tab, at}
-use Rattle.meaning.specs.SearchLaws.{fill}
+use Rattle.merging.proofs.Merging.{stored, stored-all}
 use Rattle.merging.proofs.colours_by.Statement.{statement}
 use Rattle.merging.proofs.colours_by.Tie as tie
 
 abbrev Inv-loop : tie.InvT-loop
-Inv-loop colours count names hues₀ k₀ hues k = (k ≤ count) × (length hues ≡ 256) × (take k hues ≡ tab k (λ i. at colours (at names i)))
+Inv-loop colours order hues₀ k₀ hues k = (k ≤ length order) × (length hues ≡ length hues₀) × (hues ≡ tab k (λ i. at colours (at order i)) ++ drop k hues₀)
 
 abbrev μ-loop : tie.MeasureT-loop
-μ-loop colours count names hues₀ k₀ hues k = count - k
-
-colourless-requires : tie.Need-colourless-requires Inv-loop μ-loop
-colourless-requires c κs = search needs
+μ-loop colours order hues₀ k₀ hues k = length order - k
 
 loop-holds : tie.Need-loop-holds Inv-loop μ-loop
 unfolding tab
-loop-holds c = (omega arith, c .colourless .ensures, refl)
+loop-holds c = (omega arith, refl, refl)
 
 mul-wide : tie.Need-mul-wide Inv-loop μ-loop
 mul-wide c = search needs
 
-array-read-wide : tie.Need-array-read-wide Inv-loop μ-loop
-array-read-wide c = search needs
+shared-slice-read-wide : tie.Need-shared-slice-read-wide Inv-loop μ-loop
+shared-slice-read-wide c = search needs
 
 wide-requires : tie.Need-wide-requires Inv-loop μ-loop
 wide-requires c κs = search needs
 
 element-copy-out-hues : tie.Need-element-copy-out-hues Inv-loop μ-loop
-element-copy-out-hues c = omega (arith, c .wide .ensures, c .before .before .before .before .before .pre .2 (c .before .before .loop .k) (c .before .loop-test .taken))
+element-copy-out-hues c =
+    let in-loop = c .before .before in
+    omega (arith, c .wide .ensures, in-loop .before .before .before .before .pre .2 (in-loop .before .loop .k) (in-loop .loop-test .taken))
 
-array-write-hues : tie.Need-array-write-hues Inv-loop μ-loop
-array-write-hues c = search needs
+slice-write-hues : tie.Need-slice-write-hues Inv-loop μ-loop
+slice-write-hues c = search needs
 
 add-k : tie.Need-add-k Inv-loop μ-loop
 add-k c = search needs
@@ -47,19 +47,25 @@ loop-less c = search needs
 
 loop-again : tie.Need-loop-again Inv-loop μ-loop
 loop-again c =
-    let loop = c .before .before .before .loop in
-    let start = c .before .before .before .before .before .before in (
+    let in-loop = c .before .before .before in
+    let loop = in-loop .before .loop in
+    let start = in-loop .before .before .before .before in
+    let a = start .args in
+    let hue : ℕ → ℕ = λ i. at (now (a .colours)) (at (now (a .order)) i) in (
       omega arith,
       length-set (loop .hues) (loop .k) _ ∙ loop .inv .1,
-      fill _ _ _ _ (omega arith) (loop .inv .2) (ap (at (now (start .args .colours))) (c .before .wide .ensures)),
+      stored hue (now (a .hues)) (loop .hues) (loop .k) _ (omega (arith, in-loop .loop-test .taken, start .pre .0)) (loop .inv .2) (ap (at (now (a .colours))) (c .before .wide .ensures)),
     )
+
+same-length : tie.Need-same-length Inv-loop μ-loop
+same-length c = c .before .loop .inv .1
 
 returns : tie.Need-returns Inv-loop μ-loop
 returns c =
     let loop = c .before .loop in
     let a = c .before .before .before .before .args in
-    let all : loop .k ≡ a .order .count = le-antisymm (loop .inv .0) (c .loop-test .left) in
-    (rw (← all) (loop .inv .2), loop .inv .1)
+    let hue : ℕ → ℕ = λ i. at (now (a .colours)) (at (now (a .order)) i) in
+    stored-all hue (now (a .hues)) (loop .hues) (loop .k) (length (now (a .order))) (loop .inv .2) (le-antisymm (loop .inv .0) (c .loop-test .left))
 
 pub colours-by-spec : {M : Type 1} → statement M
 colours-by-spec =
@@ -67,14 +73,14 @@ colours-by-spec =
     (tie.spec
     Inv-loop
     μ-loop
-    colourless-requires
     loop-holds
     mul-wide
-    array-read-wide
+    shared-slice-read-wide
     wide-requires
     element-copy-out-hues
-    array-write-hues
+    slice-write-hues
     add-k
     loop-less
     loop-again
+    same-length
     returns)

@@ -1,23 +1,24 @@
 -- `merging::numbered` meets its contract. Assumes nothing.
-use mathlib.Core.Path.{_≡_, refl, sym, ap, _∙_}
-use mathlib.Core.List.{List, _++_}
+use mathlib.Core.Path.{_≡_, refl, ap, _∙_}
 use mathlib.Core.Logic.{⊎-elim}
-use Prim.Native.Nat.{ℕ, _-_, _≤_, _<_}
+use Prim.Native.Nat.{_-_, _≤_, _<_}
 use native.Mathlib.Nat.{le-antisymm}
 use native.Mathlib.Omega.{arith}
 use borrow.Author.Needs.{needs}
 use denote.Ref.{now}
-use lib.ListN.{length, take, drop, length-set}
-use Rattle.meaning.specs.Search.{count, tab, at}
-use Rattle.meaning.specs.SearchLaws.{length-tab}
+use lib.ListN.{length, take, length-set}
+use Rattle.meaning.specs.Search.{count, at}
+use Rattle.meaning.specs.Reduced.{nameOf}
 use Rattle.meaning.specs.Classes.{named, classes, number}
 use Rattle.merging.specs.Merged.{Whole}
-use Rattle.merging.proofs.Merging.{whole-low, Numbering, numbering-begins, numbering-own, numbering-other}
+use Rattle.merging.proofs.Merging.{whole-low, stored-all, Numbering, numbering-begins, numbering-own, numbering-other}
 use Rattle.merging.proofs.numbered.Statement.{statement}
 use Rattle.merging.proofs.numbered.Tie as tie
 
 abbrev Inv-loop : tie.InvT-loop
-Inv-loop names n list₀ order₀ k₀ s₀ list order k s = (s ≤ n) × (k ≤ s) × ((w : Whole n (take n names)) (enough : n ≤ length list₀) → Numbering names n w list₀ enough list order k s) × (length list ≡ length list₀)
+Inv-loop names n list₀ order₀ k₀ s₀ list order k s =
+    (s ≤ n) × (k ≤ s) × ((w : Whole n (take n names)) (enough : n ≤ length list₀) (roomy : n ≤ length order₀) → Numbering names n w list₀ order₀ enough roomy list order k s) × (length list ≡ length list₀)
+    × (length order ≡ length order₀)
 
 abbrev μ-loop : tie.MeasureT-loop
 μ-loop names n list₀ order₀ k₀ s₀ list order k s = n - s
@@ -29,11 +30,8 @@ name-low c =
     whole-low (now (start .args .names)) (start .args .n) (start .pre .3) (c .before .before .before .loop .s)
     (omega (arith, c .before .before .loop-test .taken, c .before .before .before .loop .inv .0))
 
-nameless-requires : tie.Need-nameless-requires Inv-loop μ-loop
-nameless-requires c κs = search needs
-
 loop-holds : tie.Need-loop-holds Inv-loop μ-loop
-loop-holds c = (omega arith, omega arith, (λ w enough. numbering-begins _ _ w _ enough _ (c .nameless .ensures)), refl)
+loop-holds c = (omega arith, omega arith, (λ w enough roomy. numbering-begins _ _ w _ _ enough roomy), refl, refl)
 
 mul-name : tie.Need-mul-name Inv-loop μ-loop
 mul-name c = search needs
@@ -47,8 +45,8 @@ cast-if1 c = search needs
 mul-order : tie.Need-mul-order Inv-loop μ-loop
 mul-order c = omega arith
 
-array-write-order : tie.Need-array-write-order Inv-loop μ-loop
-array-write-order c = omega arith
+slice-write-order : tie.Need-slice-write-order Inv-loop μ-loop
+slice-write-order c = omega arith
 
 cast-list : tie.Need-cast-list Inv-loop μ-loop
 cast-list c = omega arith
@@ -87,22 +85,25 @@ loop-again : tie.Need-loop-again Inv-loop μ-loop
 loop-again c =
     let loop = c .before .before .before .loop in
     let start = c .before .before .before .before .before .before in
-    let small = start .pre .0 in
     let taken : loop .s < start .args .n = omega (arith, c .before .before .loop-test .taken, loop .inv .0) in (
       omega arith,
       ⊎-elim (λ v. omega (arith, v .3)) (λ v. omega (arith, v .5)) (c .if1 .came),
-      (λ w enough. ⊎-elim
-          (λ v. rw (v .1, v .2, v .3) (numbering-own _ _ w _ enough _ _ _ _ (loop .inv .2 w enough) taken small (v .0 .taken)))
-          (λ v. rw (v .3, v .4, v .5, v .1 .ensures) (numbering-other _ _ w _ enough _ _ _ _ (loop .inv .2 w enough) taken (v .0 .left)))
+      (λ w enough roomy. ⊎-elim
+          (λ v. rw (v .1, v .2, v .3) (numbering-own _ _ w _ _ enough roomy _ _ _ _ (loop .inv .2 w enough roomy) taken (v .0 .taken)))
+          (λ v. rw (v .3, v .4, v .5, v .1 .ensures) (numbering-other _ _ w _ _ enough roomy _ _ _ _ (loop .inv .2 w enough roomy) taken (v .0 .left)))
           (c .if1 .came)),
       ⊎-elim
           (λ v. ap length (v .1) ∙ length-set (loop .list) (loop .s) _ ∙ loop .inv .3)
           (λ v. ap length (v .3) ∙ length-set (loop .list) (loop .s) _ ∙ loop .inv .3)
           (c .if1 .came),
+      ⊎-elim (λ v. ap length (v .2) ∙ length-set (loop .order) (loop .k) _ ∙ loop .inv .4) (λ v. ap length (v .4) ∙ loop .inv .4) (c .if1 .came),
     )
 
 same-length : tie.Need-same-length Inv-loop μ-loop
 same-length c = c .before .loop .inv .3
+
+same-length-2 : tie.Need-same-length-2 Inv-loop μ-loop
+same-length-2 c = c .before .loop .inv .4
 
 returns : tie.Need-returns Inv-loop μ-loop
 unfolding classes
@@ -111,10 +112,11 @@ returns c =
     let start = c .before .before .before .before in
     let a = start .args in
     let P = take (a .n) (now (a .names)) in
-    let r = loop .inv .2 (start .pre .3) (start .pre .2) in
-    let all : loop .s ≡ a .n = le-antisymm (loop .inv .0) (c .loop-test .left) in (
-      r .list-is ∙ ap (λ (i : ℕ). tab i (number P) ++ drop i (now (a .list))) all ∙ ap (λ (i : ℕ). tab (a .n) (number P) ++ drop i (now (a .list))) (sym (length-tab (a .n) (number P))),
-      (r .counted ∙ ap (count (named P)) all, r .names-are),
+    let r = loop .inv .2 (start .pre .3) (start .pre .2) (start .pre .4) in
+    let all : loop .s ≡ a .n = le-antisymm (loop .inv .0) (c .loop-test .left) in
+    let counted : loop .k ≡ classes (a .n) P = r .counted ∙ ap (count (named P)) all in (
+      stored-all (number P) (now (a .list)) (loop .list) (loop .s) (a .n) (r .list-is) all,
+      (counted, stored-all (nameOf (a .n) P) (now (a .order)) (loop .order) (loop .k) (classes (a .n) P) (r .order-is) counted),
     )
 
 pub numbered-spec : {M : Type 1} → statement M
@@ -123,13 +125,12 @@ numbered-spec =
     (tie.spec
     Inv-loop
     μ-loop
-    nameless-requires
     loop-holds
     mul-name
     element-copy-out-name
     cast-if1
     mul-order
-    array-write-order
+    slice-write-order
     cast-list
     mul-list
     slice-write-list
@@ -143,4 +144,5 @@ numbered-spec =
     loop-less
     loop-again
     same-length
+    same-length-2
     returns)

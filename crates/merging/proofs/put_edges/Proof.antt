@@ -32,11 +32,11 @@ same-length c = search needs
 returns : tie.Need-returns
 returns c =
     let put = c .before .before in
-    let start = c .before .before .before .before .before .before .before in
+    let start = c .before .before .before .before .before .before .before .before in
     let a = start .args in
     let room = now (a .room) in
     let from = a .bit / 8 in
-    let es : List Edge = listed (rowEdge (now (a .table)) (a .order .names) (now (a .list))) (a .order .count) (a .m) in
+    let es : List Edge = listed (rowEdge (now (a .table)) (now (a .order)) (now (a .list))) (length (now (a .order))) (a .m) in
     let at : from * 8 + a .bit % 8 ≡ a .bit = omega arith in
     back-tail room (put .put-rows .last .1 .0) from
     ∙ rw (put .put-rows .ensures, lent-tail room from)

@@ -20,12 +20,12 @@ use Rattle.merging.proofs.put_rows.Statement.{statement}
 use Rattle.merging.proofs.put_rows.Tie as tie
 
 abbrev Inv-loop : tie.InvT-loop
-Inv-loop p part₀ bit table m list count names pen₀ k₀ part pen k =
-    (k ≤ count) × (length part ≡ length part₀) × Ready pen × (placeOf pen ≤ bit + 1536 * k)
-    × Put p part₀ bit (listed (rowEdge table names list) k m) (inked part pen) (placeOf pen)
+Inv-loop p part₀ bit table order m list pen₀ k₀ part pen k =
+    (k ≤ length order) × (length part ≡ length part₀) × Ready pen × (placeOf pen ≤ bit + 1536 * k)
+    × Put p part₀ bit (listed (rowEdge table order list) k m) (inked part pen) (placeOf pen)
 
 abbrev μ-loop : tie.MeasureT-loop
-μ-loop p part₀ bit table m list count names pen₀ k₀ part pen k = count - k
+μ-loop p part₀ bit table order m list pen₀ k₀ part pen k = length order - k
 
 begin-requires : tie.Need-begin-requires Inv-loop μ-loop
 begin-requires c κs = search needs
@@ -45,15 +45,15 @@ loop-holds c =
 mul-wide : tie.Need-mul-wide Inv-loop μ-loop
 mul-wide c = search needs
 
-array-read-wide : tie.Need-array-read-wide Inv-loop μ-loop
-array-read-wide c = search needs
+shared-slice-read-wide : tie.Need-shared-slice-read-wide Inv-loop μ-loop
+shared-slice-read-wide c = search needs
 
 wide-requires : tie.Need-wide-requires Inv-loop μ-loop
 wide-requires c κs = search needs
 
 put-row-requires : tie.Need-put-row-requires Inv-loop μ-loop
 put-row-requires c κs =
-    let in-loop = c .before .before in
+    let in-loop = c .before .before .before in
     let loop = in-loop .before .loop in
     let pre = in-loop .before .before .before .before .before .before .before .before .pre in (
       pre .0,
@@ -76,24 +76,24 @@ loop-less c = search needs
 loop-again : tie.Need-loop-again Inv-loop μ-loop
 loop-again c =
     let put = c .before .before .put-row in
-    let loop = c .before .before .before .before .before .before .loop in
-    let start = c .before .before .before .before .before .before .before .before .before .before .before .before .before in
+    let loop = c .before .before .before .before .before .before .before .loop in
+    let start = c .before .before .before .before .before .before .before .before .before .before .before .before .before .before in
     let a = start .args in
-    let names = a .order .names in
+    let order = now (a .order) in
     let T = now (a .table) in
     let list = now (a .list) in
-    let g : ℕ → ℕ → Option ℕ = rowEdge T names list in
+    let g : ℕ → ℕ → Option ℕ = rowEdge T order list in
     let k = loop .k in
-    let is : c .before .before .before .wide .result ≡ at names k = c .before .before .before .wide .ensures in
+    let is : c .before .before .before .wide .result ≡ at order k = c .before .before .before .wide .ensures in
     let turned : (s : ℕ) → List Edge = λ s. row (λ i. led list (look T s i)) k (a .m) in
     let before = inked (loop .part) (loop .pen) in
     let after = inked (put .last .1 .0) (put .result) in (
-      omega arith,
+      omega (arith, c .before .before .before .before .before .before .loop-test .taken),
       put .kept .1 .0 ∙ loop .inv .1,
       put .ensures .1 .2,
       omega (arith, put .ensures .1 .1, loop .inv .3, start .pre .4),
       subst (λ (es : List Edge). Put (a .p) (now (a .part)) (a .bit) es after (placeOf (put .result))) (sym (listed-more g k (a .m)))
-          (put-behind (a .p) (now (a .part)) (a .bit) (listed g k (a .m)) (turned (at names k)) before after (placeOf (loop .pen)) (placeOf (put .result)) (loop .inv .4)
+          (put-behind (a .p) (now (a .part)) (a .bit) (listed g k (a .m)) (turned (at order k)) before after (placeOf (loop .pen)) (placeOf (put .result)) (loop .inv .4)
           (put .ensures .0 ∙ ap (λ (s : ℕ). putEdges (a .p) before (placeOf (loop .pen)) (turned s)) is)
           (put .ensures .1 .0 ∙ ap (λ (s : ℕ). placeOf (loop .pen) + edgeBits (a .p) * length (turned s)) is)),
     )
@@ -110,9 +110,9 @@ returns c =
     let left = done .before .before in
     let loop = left .before .loop in
     let a = left .before .before .before .before .before .before .before .before .args in
-    let all : loop .k ≡ a .order .count = le-antisymm (loop .inv .0) (left .loop-test .left) in
+    let all : loop .k ≡ length (now (a .order)) = le-antisymm (loop .inv .0) (left .loop-test .left) in
     done .finish .ensures ∙ loop .inv .4 .room
-    ∙ ap (λ (k : ℕ). putEdges (a .p) (now (a .part)) (a .bit) (listed (rowEdge (now (a .table)) (a .order .names) (now (a .list))) k (a .m))) all
+    ∙ ap (λ (k : ℕ). putEdges (a .p) (now (a .part)) (a .bit) (listed (rowEdge (now (a .table)) (now (a .order)) (now (a .list))) k (a .m))) all
 
 pub put-rows-spec : {M : Type 1} → statement M
 put-rows-spec =
@@ -123,7 +123,7 @@ put-rows-spec =
     begin-requires
     loop-holds
     mul-wide
-    array-read-wide
+    shared-slice-read-wide
     wide-requires
     put-row-requires
     add-k

@@ -24,16 +24,16 @@ use Rattle.merging.proofs.write.Statement.{statement}
 use Rattle.merging.proofs.write.Tie as tie
 
 abbrev F : tie.Start → Filter
-F c = filterOf (now (c .args .hues)) (c .args .m) (c .args .start) (rowEdge (now (c .args .table)) (c .args .order .names) (now (c .args .list))) (c .args .order .count)
+F c = filterOf (now (c .args .hues)) (c .args .m) (c .args .start) (rowEdge (now (c .args .table)) (now (c .args .order)) (now (c .args .list))) (length (now (c .args .order)))
 
 passed : (c : tie.Start) → Written (c .args .p) (F c) true (length (now (c .args .room))) (lengthOf (c .args .p) (F c) ∷ [])
 passed c = write-written (c .args .p) (F c) true (length (now (c .args .room))) _ (c .pre .5)
 
 -- the classes are as many as the colours
-count : (c : tie.Start) → length (F c .colours) ≡ c .args .order .count
-count c = length-tab (c .args .order .count) (at (now (c .args .hues)))
+count : (c : tie.Start) → length (F c .colours) ≡ length (now (c .args .order))
+count c = length-tab (length (now (c .args .order))) (at (now (c .args .hues)))
 
-count≤256 : (c : tie.Start) → c .args .order .count ≤ 256
+count≤256 : (c : tie.Start) → length (now (c .args .order)) ≤ 256
 count≤256 c = rw (← count c) (states≤256 (c .args .p) (c .pre .0) (F c) (passed c .writable))
 
 -- the colours are all those that are lent
@@ -41,9 +41,9 @@ colours : (c : tie.Start) → F c .colours ≡ now (c .args .hues)
 colours c = ap (λ (k : ℕ). tab k (at (now (c .args .hues)))) (c .pre .1) ∙ tab-all (now (c .args .hues))
 
 -- the edges are as many as were counted
-counted : (c : tie.After-edge-count) → c .edge-count .result ≡ length (F (c .before .before .before .before .before) .edges)
-counted c = c .edge-count .ensures .0 ∙ (let a = c .before .before .before .before .before .args in
-    sym (listed-counted (now (a .table)) (a .order .names) (now (a .list)) (a .order .count) (a .m)))
+counted : (c : tie.After-edge-count) → c .edge-count .result ≡ length (F (c .before .before .before .before .before .before) .edges)
+counted c = c .edge-count .ensures .0 ∙ (let a = c .before .before .before .before .before .before .args in
+    sym (listed-counted (now (a .table)) (now (a .order)) (now (a .list)) (length (now (a .order))) (a .m)))
 
 -- header, colours, edges and filling of n classes with e edges
 abbrev all : (c : tie.Start) → ℕ → ℕ → List ℕ → List ℕ
@@ -54,11 +54,11 @@ all c n e cs =
     putField (putEdges p coloured (edgesBegin p n) (F c .edges)) (fileBits p n e) (fillBits p n e) 0
 
 edge-count-requires : tie.Need-edge-count-requires
-edge-count-requires c κs = let start = c .before .before .before .before in (count≤256 start, start .pre .2, start .pre .3, start .pre .6)
+edge-count-requires c κs = let start = c .before .before .before .before .before in (count≤256 start, start .pre .2, start .pre .3, start .pre .6)
 
 put-requires : tie.Need-put-requires
 put-requires c κs =
-    let start = c .before .before .before .before .before .before in
+    let start = c .before .before .before .before .before .before .before in
     let w = passed start .writable in
     (start .pre .0, rw (count start, ← counted (c .before)) at (header-fit (start .args .p) (start .pre .0) (F start) w), rw (count start) at (w .states-low), w .labels-low)
 
@@ -67,7 +67,7 @@ header-bits-requires c κs = search needs
 
 put-run-requires : tie.Need-put-run-requires
 put-run-requires c κs =
-    let start = c .before .before .before .before .before .before .before .before .before .before .before in
+    let start = c .before .before .before .before .before .before .before .before .before .before .before .before in
     let p = start .args .p in
     let ok = start .pre .0 in
     let n = length (now (start .args .hues)) in
@@ -75,12 +75,12 @@ put-run-requires c κs =
     (ok .colour≤, omega (arith, c .header-bits .ensures .1, mul-comm n (p .colour), colours-high p ok n (omega (arith, start .pre .1, count≤256 start))), rw (colours start) at (colours-fit p ok (F start) w))
 
 edges-begin-requires : tie.Need-edges-begin-requires
-edges-begin-requires c κs = let start = c .before .before .before .before .before .before .before .before .before .before .before .before .before .before .before in (start .pre .0, count≤256 start)
+edges-begin-requires c κs = let start = c .before .before .before .before .before .before .before .before .before .before .before .before .before .before .before .before in (start .pre .0, count≤256 start)
 
 put-edges-requires : tie.Need-put-edges-requires
 unfolding lengthOf fileLength bytesFor fileBits
 put-edges-requires c κs =
-    let start = c .before .before .before .before .before .before .before .before .before .before .before .before .before .before .before .before in
+    let start = c .before .before .before .before .before .before .before .before .before .before .before .before .before .before .before .before .before in
     let p = start .args .p in
     let pre = start .pre in
     let w = passed start .writable in
@@ -98,10 +98,10 @@ put-edges-requires c κs =
     )
 
 fill-requires : tie.Need-fill-requires
-fill-requires c κs = let start = c .before .before .before .before .before .before .before .before .before .before .before .before .before .before .before .before .before .before .before .before in (start .pre .0, count≤256 start, omega (arith, c .before .before .before .before .before .before .before .before .before .before .before .before .before .before .before .edge-count .ensures .1))
+fill-requires c κs = let start = c .before .before .before .before .before .before .before .before .before .before .before .before .before .before .before .before .before .before .before .before .before in (start .pre .0, count≤256 start, omega (arith, c .before .before .before .before .before .before .before .before .before .before .before .before .before .before .before .edge-count .ensures .1))
 
 file-bits-requires : tie.Need-file-bits-requires
-file-bits-requires c κs = let start = c .before .before .before .before .before .before .before .before .before .before .before .before .before .before .before .before .before .before .before .before .before .before .before in (start .pre .0, count≤256 start, omega (arith, c .before .before .before .before .before .before .before .before .before .before .before .before .before .before .before .before .before .before .edge-count .ensures .1))
+file-bits-requires c κs = let start = c .before .before .before .before .before .before .before .before .before .before .before .before .before .before .before .before .before .before .before .before .before .before .before .before in (start .pre .0, count≤256 start, omega (arith, c .before .before .before .before .before .before .before .before .before .before .before .before .before .before .before .before .before .before .edge-count .ensures .1))
 
 bytes-for-requires : tie.Need-bytes-for-requires
 bytes-for-requires c κs = search needs
@@ -113,16 +113,16 @@ returns : tie.Need-returns
 unfolding lengthOf fileLength
 returns c =
     let run = c .before .before .before .before .before .before .before .before .before .before .before .before .before in
-    let start = c .before .before .before .before .before .before .before .before .before .before .before .before .before .before .before .before .before .before .before .before .before .before .before .before .before in
+    let start = c .before .before .before .before .before .before .before .before .before .before .before .before .before .before .before .before .before .before .before .before .before .before .before .before .before .before in
     let a = start .args in
     let p = a .p in
     let room = now (a .room) in
     let hues = now (a .hues) in
-    let n = a .order .count in
+    let n = length (now (a .order)) in
     let e = c .before .before .before .before .before .before .before .before .before .before .before .before .before .before .before .before .before .before .before .before .edge-count .result in
     let es = F start .edges in
     let header : List ℕ = putFields room 0 (p .states ∷ p .labels ∷ p .start ∷ p .edges ∷ []) ((n - 1) ∷ (a .m - 1) ∷ a .start ∷ e ∷ []) in
-    let bytes : Bytes room = λ i. omega (arith, c .before .before .before .before .before .before .before .before .before .before .before .before .before .before .before .before .before .before .before .before .before .before .before .before .slice-known .given i) in
+    let bytes : Bytes room = λ i. omega (arith, c .before .before .before .before .before .before .before .before .before .before .before .before .before .before .before .before .before .before .before .before .before .before .before .before .before .slice-known .given i) in
     let written : c .before .before .before .before .fill .last .1 .0 ≡ all start n e hues =
     c .before .before .before .before .fill .ensures
     ∙ ap (λ (s : List ℕ). putField s (fileBits p n e) (fillBits p n e) 0)
