@@ -4,7 +4,7 @@ pub mod pen; // fields written one behind another
 ghost use mathlib.Core.Path.{_≡_};
 ghost use Prim.Native.Nat.{ℕ, _+_, _*_, _%_, _^_, _≤_, _<_};
 ghost use lib.ListN.{length, getD, set, drop, replicate};
-ghost use mathlib.Core.List.{_++_};
+ghost use mathlib.Core.List.{List, _++_};
 ghost use Rattle.bits.specs.Bits.{field, putField, splice, fields, putFields};
 
 // The byte as a wider number.
@@ -114,8 +114,39 @@ pub fn get_run(s: &[u8], at: usize, width: usize, n: usize, out: &mut [u8])
     requires { ⌜ (width ≤ 8) × (n ≤ length (now out)) × (at + n * width < 2 ^ 64) ⌝ }
     ensures { λ _. ⌜ now (out .exit) ≡ fields (now (s .entry)) at (replicate n width) ++ drop n (now (out .entry)) ⌝ }
 {
+    let done = get_threes(s, at, width, n, out);
+    get_rest(s, at, width, done, n, out);
+}
+
+// The same for as many of them as make threes, and how many these are: three fields are read as one.
+fn get_threes(s: &[u8], at: usize, width: usize, n: usize, out: &mut [u8]) -> usize
+    requires { ⌜ (width ≤ 8) × (n ≤ length (now out)) × (at + n * width < 2 ^ 64) ⌝ }
+    ensures fields { λ r. ⌜ now (out .exit) ≡ fields (now (s .entry)) at (replicate r width) ++ drop r (now (out .entry)) ⌝ }
+    ensures count { λ r. ⌜ r ≤ n ⌝ }
+    ensures length { λ r. ⌜ length (now (out .exit)) ≡ length (now (out .entry)) ⌝ }
+{
+    let low = 1u64 << width;
     let mut i = 0;
     let mut p = at;
+    while i + 3 <= n {
+        let three = get(s, p, 3 * width);
+        let two = three >> width;
+        out[i] = (two >> width) as u8;
+        out[i + 1] = (two % low) as u8;
+        out[i + 2] = (three % low) as u8;
+        p += 3 * width;
+        i += 3;
+    }
+    i
+}
+
+// Reads those from number `from` on, one by one behind those that are there.
+fn get_rest(s: &[u8], at: usize, width: usize, from: usize, n: usize, out: &mut [u8])
+    requires { ⌜ (width ≤ 8) × (n ≤ length (now out)) × (at + n * width < 2 ^ 64) × (from ≤ n) ⌝ }
+    ensures { λ _. ⌜ ((xs : List ℕ) → length xs ≡ length (now (out .entry)) → now (out .entry) ≡ fields (now (s .entry)) at (replicate from width) ++ drop from xs → now (out .exit) ≡ fields (now (s .entry)) at (replicate n width) ++ drop n xs) ⌝ }
+{
+    let mut i = from;
+    let mut p = at + from * width;
     while i < n {
         out[i] = get(s, p, width) as u8;
         p += width;
