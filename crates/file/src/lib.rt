@@ -76,14 +76,45 @@ pub enum Packed {
 pub fn check(file: &[u8]) -> Checked
     ensures { λ r. ⌜ CheckPromise large (now (file .entry)) r ⌝ }
 {
-    check_as(large(), file)
+    let p = large();
+    let answer = headed(file);
+    let Checked::Accepted(r) = answer else {
+        return answer;
+    };
+    let n = r.states;
+    let verdict = edges::test_file(p, file, layout::edges_begin(p, n), n, r.labels, r.edges);
+    let Verdict::Faulty(why) = verdict else {
+        return Checked::Accepted(r);
+    };
+    Checked::Refused(why)
 }
 
 // The same, with the file's colours and edges put into the two rooms.
 pub fn unpack(file: &[u8], colours: &mut [u8], edges: &mut [u8]) -> Unpacked
     ensures { λ r. ⌜ UnpackPromise large (now (file .entry)) (now (colours .entry)) (now (edges .entry)) r (now (colours .exit)) (now (edges .exit)) ⌝ }
 {
-    unpack_as(large(), file, colours, edges)
+    let p = large();
+    let answer = check(file);
+    let Checked::Accepted(r) = answer else {
+        return passed_on(answer);
+    };
+    let n = r.states;
+    let e = r.edges;
+    if colours.len() < n {
+        return Unpacked::Refused(Refusal {
+            kind: Kind::Room,
+            place: 0,
+        });
+    }
+    if edges.len() < 3 * e {
+        return Unpacked::Refused(Refusal {
+            kind: Kind::Room,
+            place: 0,
+        });
+    }
+    bits::get_run(file, layout::header_bits(p), p.colour, n, colours);
+    edges::get(p, file, layout::edges_begin(p, n), e, edges);
+    Unpacked::Accepted(r)
 }
 
 // Writes the file of a colour list, an edge list, m and a start, and answers its length.
@@ -112,7 +143,14 @@ fn refused(kind: Kind) -> Checked
 }
 
 // What is tested before the edges: reads the file's numbers, or says which of refusals 1 to 6 it gets.
-pub fn headed(p: Profile, file: &[u8]) -> Checked
+pub fn headed(file: &[u8]) -> Checked
+    ensures { λ r. ⌜ checkedOutcome r ≡ headOf large (now (file .entry)) ⌝ }
+{
+    headed_as(large(), file)
+}
+
+// The same for any widths. It has one caller, so that it is inlined there and the widths are constants.
+fn headed_as(p: Profile, file: &[u8]) -> Checked
     requires { ⌜ Usable p ⌝ }
     ensures { λ r. ⌜ checkedOutcome r ≡ headOf p (now (file .entry)) ⌝ }
 {
@@ -143,22 +181,6 @@ pub fn headed(p: Profile, file: &[u8]) -> Checked
     Checked::Accepted(r)
 }
 
-fn check_as(p: Profile, file: &[u8]) -> Checked
-    requires { ⌜ Usable p ⌝ }
-    ensures { λ r. ⌜ CheckPromise p (now (file .entry)) r ⌝ }
-{
-    let answer = headed(p, file);
-    let Checked::Accepted(r) = answer else {
-        return answer;
-    };
-    let n = r.states;
-    let verdict = edges::test_file(p, file, layout::edges_begin(p, n), n, r.labels, r.edges);
-    let Verdict::Faulty(why) = verdict else {
-        return Checked::Accepted(r);
-    };
-    Checked::Refused(why)
-}
-
 // The answer of a check as unpack's own: a refusal stays the same refusal.
 fn passed_on(answer: Checked) -> Unpacked
     ensures { λ r. ⌜ unpackedOutcome r ≡ checkedOutcome answer ⌝ }
@@ -167,33 +189,6 @@ fn passed_on(answer: Checked) -> Unpacked
         Checked::Accepted(r) => Unpacked::Accepted(r),
         Checked::Refused(why) => Unpacked::Refused(why),
     }
-}
-
-fn unpack_as(p: Profile, file: &[u8], colours: &mut [u8], edges: &mut [u8]) -> Unpacked
-    requires { ⌜ Usable p ⌝ }
-    ensures { λ r. ⌜ UnpackPromise p (now (file .entry)) (now (colours .entry)) (now (edges .entry)) r (now (colours .exit)) (now (edges .exit)) ⌝ }
-{
-    let answer = check_as(p, file);
-    let Checked::Accepted(r) = answer else {
-        return passed_on(answer);
-    };
-    let n = r.states;
-    let e = r.edges;
-    if colours.len() < n {
-        return Unpacked::Refused(Refusal {
-            kind: Kind::Room,
-            place: 0,
-        });
-    }
-    if edges.len() < 3 * e {
-        return Unpacked::Refused(Refusal {
-            kind: Kind::Room,
-            place: 0,
-        });
-    }
-    bits::get_run(file, layout::header_bits(p), p.colour, n, colours);
-    edges::get(p, file, layout::edges_begin(p, n), e, edges);
-    Unpacked::Accepted(r)
 }
 
 fn pack_as(

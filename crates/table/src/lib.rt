@@ -58,7 +58,7 @@ pub fn read(table: &mut [u16], file: &[u8]) -> Checked
     ensures length { λ r. ⌜ length (now (table .exit)) ≡ length (now (table .entry)) ⌝ }
 {
     let p = file::large();
-    let answer = file::headed(p, file);
+    let answer = file::headed(file);
     let Checked::Accepted(r) = answer else {
         return answer;
     };

@@ -45,7 +45,7 @@ reading c = c .before .answer .given .0 .0
 -- ---- what was read, in the widths of the large file
 
 head : (c : tie.After-headed) → headOf large (file c) ≡ checkedOutcome (c .headed .result)
-head c = sym (c .headed .ensures ∙ ap (λ (p : Profile). headOf p (file c)) (c .before .large .ensures))
+head c = sym (c .headed .ensures)
 
 is-headed : (c : tie.After-known-told) → HeadIs large (file (headed₁ c)) (reading c)
 is-headed c =
@@ -90,7 +90,7 @@ large-requires : tie.Need-large-requires
 large-requires c κs = search needs
 
 headed-requires : tie.Need-headed-requires
-headed-requires c κs = rw (c .large .ensures) large-usable
+headed-requires c κs = search needs
 
 enum-known-answer : tie.Need-enum-known-answer
 enum-known-answer c = search needs
