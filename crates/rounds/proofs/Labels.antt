@@ -4,7 +4,7 @@ use mathlib.Core.Path.{_≡_, refl, sym, ap, ap₂, _∙_}
 use mathlib.Core.Bool.{Bool, true, false}
 use mathlib.Core.List.{List}
 use mathlib.Core.Option.{Option, none, some}
-use native.Mathlib.Nat.{pow-suc, pow-succ', div-one, div-div-eq-div-mul, div-eq-of-lt, pow-le-pow-right, add-mul-div-right, add-mul-mod-self-right, mul-assoc, lt-of-lt-of-le}
+use native.Mathlib.Nat.{pow-suc, pow-succ', div-one, div-div-eq-div-mul, div-eq-of-lt, pow-le-pow-right, add-mul-div-right, add-mul-mod-self-right, mul-assoc, add-mul, mul-le-mul-left, lt-of-lt-of-le}
 use native.Mathlib.Numerals.{add-one}
 use native.Mathlib.Omega.{arith}
 use lib.Bits.{bitAnd, and-shr, and-mod}
@@ -12,9 +12,7 @@ use lib.Count.{trailingZeros, under, leadingZeros, leading-length}
 use lib.Dec.{eqb, ltb}
 use lib.ListN.{length, getD, set}
 use lib.Seq.{getD-set-same, getD-set-other}
-use lib.Pow.{pow-add, pow-pos, shl-exact}
-use mir.Syntax.{w64}
-use mir.Val.{Fits}
+use lib.Pow.{pow-add, pow-pos}
 use borrow.Author.Count.{below-more}
 use borrow.Author.Tests.{lt-ltb, le-ltb, eqb-true, eqb-false, ltb-true, ltb-false}
 use Rattle.meaning.specs.Cases.{test}
@@ -46,18 +44,6 @@ pub high-clear : (x y : ℕ) → x < 2 ^ 64 → 64 - leadingZeros 64 x ≤ y →
 high-clear x y h l = let t = leading-length 64 x h in short-clear (t .0) x y (t .2) (omega (arith, t .1))
 
 -- ---- the set of what passes
-
-pub mask-hit : (p : ℕ → Bool) (m : ℕ) → p m ≡ true → mask p (m + 1) ≡ mask p m + 2 ^ m
-unfolding mask
-mask-hit p m h = rw (add-one m, mask, h) (omega arith)
-
-pub mask-miss : (p : ℕ → Bool) (m : ℕ) → p m ≡ false → mask p (m + 1) ≡ mask p m
-unfolding mask
-mask-miss p m h = rw (add-one m, mask, h) (omega arith)
-
-pub mask-none : (p : ℕ → Bool) → mask p 0 ≡ 0
-unfolding mask
-mask-none p = refl
 
 pub mask-low : (p : ℕ → Bool) (m : ℕ) → mask p m < 2 ^ m
 unfolding mask
@@ -131,11 +117,40 @@ module _ (T L P : List ℕ) (m n : ℕ) (labelled : Labelled T L m n) (a b : ℕ
 
 -- ---- a set as it is made
 
-pub shifted-one : (y : ℕ) → y < 64 → 1 * 2 ^ y % 18446744073709551616 ≡ 2 ^ y
-shifted-one y h = shl-exact {a = 1} 1 y 64 (omega arith) (omega arith) ∙ omega arith
+-- the bits from y on are in x, and the rest of the set is below them
+abbrev pub Above : (ℕ → Bool) → ℕ → ℕ → ℕ → Type 0
+Above p m x y = x * 2 ^ y + mask p y ≡ mask p m
 
-pub mask-fits : (p : ℕ → Bool) (y : ℕ) → y < 64 → Fits w64 (mask p y + 2 ^ y)
-mask-fits p y h = record { fits = lt-of-lt-of-le (rw (pow-suc 2 y) (omega (arith, mask-low p y))) (pow-le-pow-right {n = 2} (omega arith) {i = suc y} {j = 64} h) }
+pub above-none : (p : ℕ → Bool) (m : ℕ) → Above p m 0 m
+above-none p m = omega arith
+
+above-more : (p : ℕ → Bool) (m x y : ℕ) → Above p m x (y + 1) → Above p m (x * 2 + bit (p y)) y
+unfolding mask
+above-more p m x y h =
+    let e : x * 2 ^ (y + 1) ≡ x * 2 * 2 ^ y = ap (λ (k : ℕ). x * k) (ap (λ (k : ℕ). 2 ^ k) (add-one y) ∙ pow-succ' 2 y) ∙ sym (mul-assoc x 2 (2 ^ y)) in
+    let f : mask p (y + 1) ≡ mask p y + bit (p y) * 2 ^ y = rw (add-one y, mask) in
+    let g : (x * 2 + bit (p y)) * 2 ^ y ≡ x * 2 * 2 ^ y + bit (p y) * 2 ^ y = add-mul (x * 2) (bit (p y)) (2 ^ y) in
+    omega (arith, e, f, g, h)
+
+pub above-hit : (p : ℕ → Bool) (m x y : ℕ) → Above p m x (y + 1) → p y ≡ true → Above p m (x * 2 + 1) y
+above-hit p m x y h e = ap (λ (b : Bool). (x * 2 + bit b) * 2 ^ y + mask p y) (sym e) ∙ above-more p m x y h
+
+pub above-miss : (p : ℕ → Bool) (m x y : ℕ) → Above p m x (y + 1) → p y ≡ false → Above p m (x * 2) y
+above-miss p m x y h e =
+    let none-there : x * 2 + 0 ≡ x * 2 = omega arith in
+    ap (λ (k : ℕ). k * 2 ^ y + mask p y) (sym none-there) ∙ ap (λ (b : Bool). (x * 2 + bit b) * 2 ^ y + mask p y) (sym e) ∙ above-more p m x y h
+
+pub above-all : (p : ℕ → Bool) (m x y : ℕ) → Above p m x y → y ≡ 0 → x ≡ mask p m
+unfolding mask
+above-all p m x y h e = let whole = rw e at h in omega (arith, whole)
+
+-- a place is left for the next bit
+pub above-low : (p : ℕ → Bool) (m x y : ℕ) → Above p m x (y + 1) → m ≤ 64 → x * 2 + 1 < 2 ^ 64
+above-low p m x y h l =
+    let top : mask p m < 2 ^ 64 = lt-of-lt-of-le (mask-low p m) (pow-le-pow-right {n = 2} (omega arith) {i = m} {j = 64} l) in
+    let e : x * 2 ^ (y + 1) ≡ x * 2 * 2 ^ y = ap (λ (k : ℕ). x * k) (ap (λ (k : ℕ). 2 ^ k) (add-one y) ∙ pow-succ' 2 y) ∙ sym (mul-assoc x 2 (2 ^ y)) in
+    let le : x * 2 * 1 ≤ x * 2 * 2 ^ y = mul-le-mul-left (x * 2) (pow-pos y) in
+    omega (arith, top, e, le, h)
 
 pub labelled-none : (T L : List ℕ) (m : ℕ) → Labelled T L m 0
 labelled-none T L m = λ s y h. absurd (omega arith)

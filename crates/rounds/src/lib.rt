@@ -87,12 +87,13 @@ fn labels_at(table: &[u16], s: usize, m: usize) -> u64
     ensures { λ r. ⌜ r ≡ mask (λ y. has (look (now (table .entry)) s y)) m ⌝ }
 {
     let mut labels = 0;
-    let mut y = 0;
-    while y < m {
+    let mut y = m;
+    while 0 < y {
+        y -= 1;
+        labels *= 2;
         if table::entry(table, s, y) < 256 {
-            labels += 1u64 << y;
+            labels += 1;
         }
-        y += 1;
     }
     labels
 }
