@@ -34,14 +34,6 @@ or-true false = refl
 
 -- ---- any, for a loop upward
 
-pub any-start : (p : ℕ → Bool) → any p 0 ≡ false
-unfolding any
-any-start p = refl
-
-pub any-next : (p : ℕ → Bool) (i : ℕ) → any p i ≡ false → p i ≡ false → any p (i + 1) ≡ false
-unfolding any
-any-next p i h e = rw (add-one i, any, e, h)
-
 pub any-empty : (p : ℕ → Bool) (n : ℕ) → ((i : ℕ) → i < n → p i ≡ false) → any p n ≡ false
 any-empty p n h = test (any p n) (λ q. let w = any-elim p n q in no-both (w .2) (h (w .0) (w .1))) (λ q. q)
 
@@ -83,11 +75,6 @@ module _ (P T : List ℕ) (a b y : ℕ) (ha : a * 64 + y < length T) (hb : b * 6
 -- ---- conflicts
 
 module _ (T : List ℕ) (m : ℕ) (P : List ℕ) (a b : ℕ) where
-  -- all labels are tried and none parts the two
-  pub clash-calm : (y : ℕ) → any (λ x. apart P (look T a x) (look T b x)) y ≡ false → m ≤ y → clash T m P a b ≡ false
-  unfolding conflict
-  clash-calm y h l = any-empty _ m (λ x k. any-none _ y x (omega arith) h)
-
   pub clash-here : (y : ℕ) → y < m → apart P (look T a y) (look T b y) ≡ true → clash T m P a b ≡ true
   unfolding conflict
   clash-here y l h = any-intro (λ x. apart P (look T a x) (look T b x)) m y l h
@@ -185,12 +172,6 @@ module _ (P : List ℕ) (c : ℕ) (G : List ℕ) (s : ℕ) where
   abbrev pub mate : ℕ → Bool
   mate t = eqb (at P t) c && eqb (at G t) (at G s)
 
-  pub mate-other : (t : ℕ) → (at P t ≡ c → ⊥) → mate t ≡ false
-  mate-other t h = rw (ne-eqb _ _ h)
-
-  pub mate-apart : (t : ℕ) → (at G t ≡ at G s → ⊥) → mate t ≡ false
-  mate-apart t h = rw (ne-eqb (at G t) (at G s) h) (and-false (eqb (at P t) c))
-
   pub renamed-other : (n : ℕ) → (at P s ≡ c → ⊥) → at P s ≡ renamed n P c G s
   unfolding renamed
   renamed-other n h = rw (renamed, ne-eqb (at P s) c h)
@@ -267,10 +248,6 @@ module _ (clashes : ℕ → ℕ → Bool) (P G : List ℕ) (c s : ℕ) where
   bit-zero : (b : Bool) → eqb (bit b) 0 ≡ not b
   bit-zero true = refl
   bit-zero false = refl
-
-  pub group-other : (at P s ≡ c → ⊥) → 0 ≡ group clashes P c G s
-  unfolding group
-  group-other h = rw (group, ne-eqb (at P s) c h)
 
   pub group-marked : (marks : List ℕ) → s < 256 → at P s ≡ c → Marks marks s → least (λ g. eqb (at marks g) 0) s ≡ group clashes P c G s
   unfolding group
