@@ -46,7 +46,8 @@ pub fn whole() -> [u16; 16384]
 pub fn states(file: &[u8]) -> usize
     ensures { λ r. ⌜ (r ≡ statesIn large (now (file .entry))) × (r ≤ 256) ⌝ }
 {
-    file::header::read(file::large(), file).states
+    let p = file::large();
+    bits::get(file, 0, p.states) as usize + 1
 }
 
 // Checks a file and puts its edges into an empty table, in one pass over them: of an accepted file the table has every edge. The
