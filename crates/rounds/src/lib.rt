@@ -202,67 +202,64 @@ fn pair_in(
     found
 }
 
+// How many classes there are.
+fn count(names: &[u16; 256], n: usize) -> usize
+    requires { ⌜ (n ≤ 256) × (length (now names) ≡ 256) ⌝ }
+    ensures { λ r. ⌜ (r ≡ classes n (now (names .entry))) × (r ≤ n) ⌝ }
+{
+    let mut k = 0;
+    let mut s: usize = 0;
+    while s < n {
+        if names[s] == s as u16 {
+            k += 1;
+        }
+        s += 1;
+    }
+    k
+}
+
+// For each state the next one behind it in its class; n where there is none.
+fn follow(names: &[u16; 256], n: usize, next: &mut [u16; 256])
+    requires { ⌜ (n ≤ 256) × ((s : ℕ) → s < n → at (now names) s < 256) × (length (now next) ≡ 256) × (length (now names) ≡ 256) ⌝ }
+    ensures { λ _. ⌜ Linked (now (names .entry)) n (now (next .exit)) ⌝ }
+{
+    let mut nearest = nowhere(n); // by name: the first member at s or behind it
+    let mut s = n;
+    while 0 < s {
+        s -= 1;
+        let c = wide(names[s]);
+        next[s] = nearest[c];
+        nearest[c] = s as u16;
+    }
+}
+
+// The class with the smallest name that has a conflicting pair; n where there is none.
+fn first_parted(
+    table: &[u16],
+    labels: &[u64; 256],
+    names: &[u16; 256],
+    next: &[u16; 256],
+    m: usize,
+    n: usize,
+) -> usize
+    requires { ⌜ (m ≤ 64) × (n ≤ 256) × Named n (take n (now names)) × (length (now labels) ≡ 256) × Labelled (now table) (now labels) m n × Linked (now names) n (now next) × (n * 64 ≤ length (now table)) × (length (now names) ≡ 256) ⌝ }
+    ensures { λ r. ⌜ r ≡ first n (clash (now (table .entry)) m (now (names .entry))) (now (names .entry)) ⌝ }
+{
+    let mut c: usize = 0;
+    while c < n {
+        // A class is named by one of its members, so what is not its own name has no members to look at.
+        if names[c] == c as u16 {
+            let found = pair_in(table, labels, names, next, m, n, c);
+            if let Found::Pair(_, _) = found {
+                return c;
+            }
+        }
+        c += 1;
+    }
+    c
+}
+
 impl Partition {
-    // How many classes there are.
-    fn classes(self, n: usize) -> usize
-        requires { ⌜ n ≤ 256 ⌝ }
-        ensures { λ r. ⌜ (r ≡ classes n (self .names)) × (r ≤ n) ⌝ }
-    {
-        let names = self.names;
-        let mut k = 0;
-        let mut s: usize = 0;
-        while s < n {
-            if names[s] == s as u16 {
-                k += 1;
-            }
-            s += 1;
-        }
-        k
-    }
-
-    // For each state the next one behind it in its class; n where there is none.
-    fn follow(self, n: usize, next: &mut [u16; 256])
-        requires { ⌜ (n ≤ 256) × ((s : ℕ) → s < n → at (self .names) s < 256) × (length (now next) ≡ 256) ⌝ }
-        ensures { λ _. ⌜ Linked (self .names) n (now (next .exit)) ⌝ }
-    {
-        let names = self.names;
-        let mut nearest = nowhere(n); // by name: the first member at s or behind it
-        let mut s = n;
-        while 0 < s {
-            s -= 1;
-            let c = wide(names[s]);
-            next[s] = nearest[c];
-            nearest[c] = s as u16;
-        }
-    }
-
-    // The class with the smallest name that has a conflicting pair; n where there is none.
-    fn first_parted(
-        self,
-        table: &[u16],
-        labels: &[u64; 256],
-        next: &[u16; 256],
-        m: usize,
-        n: usize,
-    ) -> usize
-        requires { ⌜ (m ≤ 64) × (n ≤ 256) × Named n (take n (self .names)) × (length (now labels) ≡ 256) × Labelled (now table) (now labels) m n × Linked (self .names) n (now next) × (n * 64 ≤ length (now table)) ⌝ }
-        ensures { λ r. ⌜ r ≡ first n (clash (now (table .entry)) m (self .names)) (self .names) ⌝ }
-    {
-        let names = self.names;
-        let mut c: usize = 0;
-        while c < n {
-            // A class is named by one of its members, so what is not its own name has no members to look at.
-            if names[c] == c as u16 {
-                let found = pair_in(table, labels, &names, next, m, n, c);
-                if let Found::Pair(_, _) = found {
-                    return c;
-                }
-            }
-            c += 1;
-        }
-        c
-    }
-
     // Class c is split: each of its groups becomes a class, named by its first member.
     fn split(
         self,
@@ -395,15 +392,15 @@ pub fn settled(table: &[u16], colours: &[u8; 256], m: usize, n: usize) -> Ending
     label(table, m, n, &mut labels);
     let mut p = first;
     let mut next = fresh();
-    p.follow(n, &mut next);
-    let mut c = p.first_parted(table, &labels, &next, m, n);
+    follow(&p.names, n, &mut next);
+    let mut c = first_parted(table, &labels, &p.names, &next, m, n);
     while c < n {
         p = p.split(table, &labels, &next, m, n, c);
-        p.follow(n, &mut next);
-        c = p.first_parted(table, &labels, &next, m, n);
+        follow(&p.names, n, &mut next);
+        c = first_parted(table, &labels, &p.names, &next, m, n);
     }
     Ending {
-        colours: first.classes(n),
+        colours: count(&first.names, n),
         last: p,
     }
 }

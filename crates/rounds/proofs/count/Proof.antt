@@ -1,22 +1,23 @@
--- `rounds::Partition::classes` meets its contract. Assumes nothing.
+-- `rounds::count` meets its contract. Assumes nothing.
 use mathlib.Core.Path.{_≡_, refl, sym, ap, _∙_}
 use mathlib.Core.Logic.{⊎-elim}
 use Prim.Native.Nat.{ℕ, _+_, _-_, _≤_}
 use native.Mathlib.Nat.{le-antisymm}
 use native.Mathlib.Omega.{arith}
-use borrow.Author.Needs.{needs}
+use denote.Ref.{now}
 use borrow.Author.Tests.{eq-eqb, ne-eqb}
 use Rattle.meaning.specs.SearchLaws.{count-hit, count-miss}
 use Rattle.meaning.specs.Search.{count}
 use Rattle.meaning.specs.Classes.{named, classes}
-use Rattle.rounds.proofs.Partition.classes.Statement.{statement}
-use Rattle.rounds.proofs.Partition.classes.Tie as tie
+use borrow.Author.Needs.{needs}
+use Rattle.rounds.proofs.count.Statement.{statement}
+use Rattle.rounds.proofs.count.Tie as tie
 
 abbrev Inv-loop : tie.InvT-loop
-Inv-loop n names k₀ s₀ k s = (s ≤ n) × (k ≡ count (named names) s) × (k ≤ s)
+Inv-loop names n k₀ s₀ k s = (s ≤ n) × (k ≡ count (named names) s) × (k ≤ s)
 
 abbrev μ-loop : tie.MeasureT-loop
-μ-loop n names k₀ s₀ k s = n - s
+μ-loop names n k₀ s₀ k s = n - s
 
 loop-holds : tie.Need-loop-holds Inv-loop μ-loop
 unfolding count
@@ -25,8 +26,8 @@ loop-holds c = (omega arith, refl, omega arith)
 mul-if1 : tie.Need-mul-if1 Inv-loop μ-loop
 mul-if1 c = omega arith
 
-array-read-if1 : tie.Need-array-read-if1 Inv-loop μ-loop
-array-read-if1 c = omega arith
+element-copy-out-if1 : tie.Need-element-copy-out-if1 Inv-loop μ-loop
+element-copy-out-if1 c = search needs
 
 cast-if1 : tie.Need-cast-if1 Inv-loop μ-loop
 cast-if1 c = omega arith
@@ -41,9 +42,8 @@ loop-less : tie.Need-loop-less Inv-loop μ-loop
 loop-less c = omega arith
 
 loop-again : tie.Need-loop-again Inv-loop μ-loop
-loop-again c =
-    let loop = c .before .before .loop in
-    let names = c .before .before .before .before .args .self .names in (
+loop-again c = let loop = c .before .before .before .loop in
+    let names = now (c .before .before .before .before .args .names) in (
       omega arith,
       ⊎-elim
           (λ w. w .1 ∙ ap (λ (k : ℕ). k + 1) (loop .inv .1) ∙ sym (count-hit (named names) (loop .s) (eq-eqb _ _ (w .0 .taken))))
@@ -54,21 +54,20 @@ loop-again c =
 
 returns : tie.Need-returns Inv-loop μ-loop
 unfolding classes
-returns c =
-    let loop = c .before .loop in
-    let a = c .before .before .before .args in
+returns c = let loop = c .before .loop in
+    let a = c .before .before .args in
     let all : loop .s ≡ a .n = le-antisymm (loop .inv .0) (c .loop-test .left) in
-    (loop .inv .1 ∙ ap (count (named (a .self .names))) all, omega arith)
+    (loop .inv .1 ∙ ap (count (named (now (a .names)))) all, omega arith)
 
-pub classes-spec : {M : Type 1} → statement M
-classes-spec =
+pub count-spec : {M : Type 1} → statement M
+count-spec =
     tie.close
     (tie.spec
     Inv-loop
     μ-loop
     loop-holds
     mul-if1
-    array-read-if1
+    element-copy-out-if1
     cast-if1
     add-k
     add-s
