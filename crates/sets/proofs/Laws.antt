@@ -1,0 +1,193 @@
+-- Laws of sets in a word, by the digits of a number, lowest first. Assumes nothing.
+use Prim.Native.Nat.{ℕ, zero, suc, _+_, _*_, _-_, _/_, _%_, _^_, _≤_, _<_}
+use mathlib.Core.Path.{_≡_, refl, sym, ap, ap₂, _∙_}
+use mathlib.Core.Bool.{Bool, true, false, not, _&&_, _||_}
+use native.Mathlib.Nat.{pow-suc, pow-succ', div-one, div-div-eq-div-mul, div-eq-of-lt, mod-lt}
+use native.Mathlib.Decide.{ℕ-discrete}
+use native.Mathlib.Omega.{arith}
+use lib.Bits.{bitAnd, bitOr, bitXor, and-shr, and-mod, or-shr, or-mod, xor-shr, xor-mod}
+use lib.Count.{trailingZeros, under, ones, ones-step, ones-le}
+use lib.Dec.{eqb}
+use lib.Pow.{pow-pos}
+use borrow.Author.Tests.{eqb-true, eq-eqb, ne-eqb}
+use Rattle.meaning.specs.Search.{count, bit}
+use Rattle.meaning.specs.SearchLaws.{count-cong}
+use Rattle.sets.specs.Sets.{holds, Lowest}
+
+-- what cannot be: a test that is true and false
+never {ℓ} : {A : Type ℓ} {b : Bool} → b ≡ true → b ≡ false → A
+never p q = let z : _≡_ {A = ℕ} 0 1 = cc in absurd (omega arith)
+
+-- ---- digit by digit
+
+holds-first : (x : ℕ) → holds x 0 ≡ eqb (x % 2) 1
+unfolding holds
+holds-first x = rw (div-one x)
+
+holds-later : (x j : ℕ) → holds x (suc j) ≡ holds (x / 2) j
+unfolding holds
+holds-later x j = rw (pow-succ' 2 j, ← div-div-eq-div-mul x 2 (2 ^ j))
+
+odd : (x : ℕ) → holds x 0 ≡ true → x % 2 ≡ 1
+odd x h = eqb-true (x % 2) 1 (sym (holds-first x) ∙ h)
+
+even : (x : ℕ) → holds x 0 ≡ false → x % 2 ≡ 0
+even x h = go (x % 2) refl
+  where
+    go : (r : ℕ) → x % 2 ≡ r → r ≡ 0
+    go zero e = refl
+    go (suc zero) e = never (holds-first x ∙ rw e) h
+    go (suc (suc r)) e = absurd (omega arith)
+
+-- ---- two sets
+
+module _ (d e : ℕ) (hd : d < 2) (he : e < 2) where
+  and-digit : eqb (bitAnd d e) 1 ≡ (eqb d 1 && eqb e 1)
+  and-digit = go d e hd he
+    where
+      go : (d e : ℕ) → d < 2 → e < 2 → eqb (bitAnd d e) 1 ≡ (eqb d 1 && eqb e 1)
+      go zero zero h k = refl
+      go zero (suc zero) h k = refl
+      go (suc zero) zero h k = refl
+      go (suc zero) (suc zero) h k = refl
+      go zero (suc (suc e)) h k = absurd (omega arith)
+      go (suc zero) (suc (suc e)) h k = absurd (omega arith)
+      go (suc (suc d)) e h k = absurd (omega arith)
+
+  or-digit : eqb (bitOr d e) 1 ≡ (eqb d 1 || eqb e 1)
+  or-digit = go d e hd he
+    where
+      go : (d e : ℕ) → d < 2 → e < 2 → eqb (bitOr d e) 1 ≡ (eqb d 1 || eqb e 1)
+      go zero zero h k = refl
+      go zero (suc zero) h k = refl
+      go (suc zero) zero h k = refl
+      go (suc zero) (suc zero) h k = refl
+      go zero (suc (suc e)) h k = absurd (omega arith)
+      go (suc zero) (suc (suc e)) h k = absurd (omega arith)
+      go (suc (suc d)) e h k = absurd (omega arith)
+
+  xor-digit : eqb (bitXor d (bitAnd d e)) 1 ≡ (eqb d 1 && not (eqb e 1))
+  xor-digit = go d e hd he
+    where
+      go : (d e : ℕ) → d < 2 → e < 2 → eqb (bitXor d (bitAnd d e)) 1 ≡ (eqb d 1 && not (eqb e 1))
+      go zero zero h k = refl
+      go zero (suc zero) h k = refl
+      go (suc zero) zero h k = refl
+      go (suc zero) (suc zero) h k = refl
+      go zero (suc (suc e)) h k = absurd (omega arith)
+      go (suc zero) (suc (suc e)) h k = absurd (omega arith)
+      go (suc (suc d)) e h k = absurd (omega arith)
+
+pub holds-and : (a b j : ℕ) → holds (bitAnd a b) j ≡ (holds a j && holds b j)
+unfolding holds
+holds-and a b j =
+    ap (λ (x : ℕ). eqb (x % 2) 1) (and-shr a b j) ∙ ap (λ (x : ℕ). eqb x 1) (and-mod (a / 2 ^ j) (b / 2 ^ j) 1)
+    ∙ and-digit (a / 2 ^ j % 2) (b / 2 ^ j % 2) (omega arith) (omega arith)
+
+pub holds-or : (a b j : ℕ) → holds (bitOr a b) j ≡ (holds a j || holds b j)
+unfolding holds
+holds-or a b j =
+    ap (λ (x : ℕ). eqb (x % 2) 1) (or-shr a b j) ∙ ap (λ (x : ℕ). eqb x 1) (or-mod (a / 2 ^ j) (b / 2 ^ j) 1)
+    ∙ or-digit (a / 2 ^ j % 2) (b / 2 ^ j % 2) (omega arith) (omega arith)
+
+pub holds-less : (a b j : ℕ) → holds (bitXor a (bitAnd a b)) j ≡ (holds a j && not (holds b j))
+unfolding holds
+holds-less a b j =
+    ap (λ (x : ℕ). eqb (x % 2) 1) (xor-shr a (bitAnd a b) j) ∙ ap (λ (x : ℕ). eqb x 1) (xor-mod (a / 2 ^ j) (bitAnd a b / 2 ^ j) 1)
+    ∙ ap (λ (x : ℕ). eqb (bitXor (a / 2 ^ j % 2) x) 1) (ap (λ (x : ℕ). x % 2) (and-shr a b j) ∙ and-mod (a / 2 ^ j) (b / 2 ^ j) 1)
+    ∙ xor-digit (a / 2 ^ j % 2) (b / 2 ^ j % 2) (omega arith) (omega arith)
+
+-- ---- how many
+
+count-first : (p : ℕ → Bool) (n : ℕ) → count p (suc n) ≡ bit (p 0) + count (λ i. p (suc i)) n
+unfolding count
+count-first p zero = omega arith
+count-first p (suc n) = ap (λ (k : ℕ). k + bit (p (suc n))) (count-first p n) ∙ omega arith
+
+pub holds-count : (w x : ℕ) → x < 2 ^ w → ones x ≡ count (holds x) w
+unfolding count
+holds-count zero x h = let no-ones : ones 0 ≡ 0 = omega (arith, ones-le 0 0 (omega arith)) in ap ones none ∙ no-ones
+  where
+    none : x ≡ 0
+    none = omega arith
+holds-count (suc w) x h =
+    ones-step x
+    ∙ ap₂ (λ (a b : ℕ). a + b) (digit (x % 2) refl) (holds-count w (x / 2) (omega (arith, pow-suc 2 w)) ∙ count-cong (holds (x / 2)) (λ i. holds x (suc i)) w (λ i l. sym (holds-later x i)))
+    ∙ sym (count-first (holds x) w)
+  where
+    digit : (r : ℕ) → x % 2 ≡ r → r ≡ bit (holds x 0)
+    digit zero e = let h : holds x 0 ≡ false = holds-first x ∙ rw e in rw h
+    digit (suc zero) e = let h : holds x 0 ≡ true = holds-first x ∙ rw e in rw h
+    digit (suc (suc r)) e = absurd (omega arith)
+
+-- ---- no number, one number
+
+eqb-later : (k j : ℕ) → eqb (suc k) (suc j) ≡ eqb k j
+eqb-later k j = go (ℕ-discrete k j)
+  where
+    go : Dec (k ≡ j) → eqb (suc k) (suc j) ≡ eqb k j
+    go (yes e) = eq-eqb (suc k) (suc j) (ap suc e) ∙ sym (eq-eqb k j e)
+    go (no e) = ne-eqb (suc k) (suc j) (λ q. e (omega arith)) ∙ sym (ne-eqb k j e)
+
+pub holds-none : (j : ℕ) → holds 0 j ≡ false
+unfolding holds
+holds-none j = rw (div-eq-of-lt {n = 0} {m = 2 ^ j} (pow-pos j))
+
+pub holds-one : (k j : ℕ) → holds (2 ^ k) j ≡ eqb k j
+holds-one zero zero = holds-first 1
+holds-one zero (suc j) = holds-later 1 j ∙ holds-none j ∙ sym (ne-eqb 0 (suc j) (λ q. omega arith))
+holds-one (suc k) zero = holds-first (2 ^ suc k) ∙ ne-eqb (2 ^ suc k % 2) 1 (λ q. omega (arith, pow-suc 2 k)) ∙ sym (ne-eqb (suc k) 0 (λ q. omega arith))
+holds-one (suc k) (suc j) = holds-later (2 ^ suc k) j ∙ ap (λ (x : ℕ). holds x j) half ∙ holds-one k j ∙ sym (eqb-later k j)
+  where
+    half : 2 ^ suc k / 2 ≡ 2 ^ k
+    half = rw (pow-suc 2 k) (omega arith)
+
+-- ---- the smallest
+
+pub lowest-is : (w x : ℕ) → 0 < x → x < 2 ^ w → (trailingZeros w x < w) × Lowest x (trailingZeros w x)
+unfolding trailingZeros
+lowest-is zero x h l = absurd (omega arith)
+lowest-is (suc w) x h l = go (lowest-is w (x / 2)) (x % 2) refl
+  where
+    go : (0 < x / 2 → x / 2 < 2 ^ w → (trailingZeros w (x / 2) < w) × Lowest (x / 2) (trailingZeros w (x / 2))) → (r : ℕ) → x % 2 ≡ r
+        → (under r (trailingZeros w (x / 2)) < suc w) × Lowest x (under r (trailingZeros w (x / 2)))
+    go later (suc r) e = (omega arith, record { there = holds-first x ∙ eq-eqb (x % 2) 1 (omega arith); below = λ j k. absurd (omega arith) })
+    go later zero e =
+        let rest = later (omega arith) (omega (arith, pow-suc 2 w)) in
+        (omega (arith, rest .0), record { there = holds-later x _ ∙ rest .1 .there; below = below (rest .1 .below) })
+      where
+        below : ((j : ℕ) → j < trailingZeros w (x / 2) → holds (x / 2) j ≡ false) → (j : ℕ) → j < suc (trailingZeros w (x / 2)) → holds x j ≡ false
+        below rest zero k = holds-first x ∙ rw e
+        below rest (suc j) k = holds-later x j ∙ rest j (omega arith)
+
+-- one less: the smallest is gone, and the larger ones stay
+less : (k x j : ℕ) → Lowest x k → holds x j ≡ true → holds (x - 1) j ≡ not (eqb k j)
+less zero x zero low h = holds-first (x - 1) ∙ rw gone
+  where
+    gone : (x - 1) % 2 ≡ 0
+    gone = omega (arith, odd x (low .there))
+less zero x (suc j) low h = holds-later (x - 1) j ∙ ap (λ (y : ℕ). holds y j) same ∙ sym (holds-later x j) ∙ h ∙ sym (ap not (ne-eqb 0 (suc j) (λ q. omega arith)))
+  where
+    same : (x - 1) / 2 ≡ x / 2
+    same = omega (arith, odd x (low .there))
+less (suc k) x zero low h = never h (low .below 0 (omega arith))
+less (suc k) x (suc j) low h = holds-later (x - 1) j ∙ ap (λ (y : ℕ). holds y j) half ∙ less k (x / 2) j lower (sym (holds-later x j) ∙ h) ∙ sym (ap not (eqb-later k j))
+  where
+    half : (x - 1) / 2 ≡ x / 2 - 1
+    half = omega (arith, even x (low .below 0 (omega arith)))
+
+    lower : Lowest (x / 2) k
+    lower = record { there = sym (holds-later x k) ∙ low .there; below = λ i l. sym (holds-later x i) ∙ low .below (suc i) (omega arith) }
+
+pub without : (k x j : ℕ) → Lowest x k → holds (bitAnd x (x - 1)) j ≡ (holds x j && not (eqb k j))
+without k x j low = holds-and x (x - 1) j ∙ go (holds x j) refl
+  where
+    go : (b : Bool) → holds x j ≡ b → (b && holds (x - 1) j) ≡ (b && not (eqb k j))
+    go true e = less k x j low e
+    go false e = refl
+
+pub or-swap : (a b : Bool) → (a || b) ≡ (b || a)
+or-swap true true = refl
+or-swap true false = refl
+or-swap false true = refl
+or-swap false false = refl
