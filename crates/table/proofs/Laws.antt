@@ -1,200 +1,178 @@
--- Laws of the table's look-up: an empty table, one edge more, and the table of a file.
+-- Laws of the table's look-up: an edge that is there, an empty table, one edge more, and a state given the edges of another.
 -- Assumes nothing.
-use mathlib.Core.Path.{_≡_, refl, sym, ap, _∙_, fun-ext, subst}
-use mathlib.Core.Bool.{true, false}
-use mathlib.Core.List.{List, [], _∷_, _++_}
+use mathlib.Core.Path.{_≡_, refl, sym, ap, _∙_, fun-ext}
+use mathlib.Core.Bool.{Bool, true, false, not, _&&_, _||_}
+use mathlib.Core.List.{List, []}
 use mathlib.Core.Option.{Option, none, some}
-use Prim.Native.Nat.{ℕ, zero, suc, _+_, _*_, _-_, _≤_, _<_}
+use Prim.Native.Nat.{ℕ, zero, suc, _+_, _*_, _≤_, _<_}
 use native.Mathlib.Decide.{decLt, ℕ-discrete}
 use native.Mathlib.Omega.{arith}
 use lib.Dec.{eqb, ltb}
-use lib.ListN.{length, getD, set, drop, replicate, List·getD-append, List·getD-eq-default}
-use lib.Seq.{getD-set-same, getD-set-other, getD-drop, getD-append-add}
-use borrow.Author.Tests.{lt-ltb, le-ltb, ltb-true, ltb-false, eq-eqb, ne-eqb}
-use Rattle.meaning.specs.Filter.{Edge, each, inside, ascending, states}
-use Rattle.meaning.specs.Trace.{target, edge}
-use Rattle.meaning.specs.TraceLaws.{stands, target-snoc, target-before, target-fresh}
-use Rattle.meaning.specs.Demand.{fits}
-use Rattle.meaning.specs.Cases.{test, and-left}
-use Rattle.file.specs.Layout.{large}
-use Rattle.file.specs.Contents.{statesIn, labelsIn, filterIn}
-use Rattle.file.specs.Answers.{accepted}
-use Rattle.file.specs.Refusals.{edgeFault, faultAt, firstFault, checkOf}
-use Rattle.file.proofs.Bounds.{large-usable, states-high}
-use Rattle.file.proofs.Tests.{fault-free}
-use Rattle.file.proofs.Files.{length-filter}
-use Rattle.file.proofs.RoundTrip.{checked-in-order}
-use Rattle.table.specs.Table.{entry, look, or, given}
+use lib.ListN.{length, length-set, set, replicate}
+use lib.Seq.{getD-set-same, getD-set-other}
+use borrow.Author.Tests.{lt-ltb, le-ltb, ltb-true, ltb-false, eq-eqb, ne-eqb, eqb-true, eqb-false}
+use Rattle.meaning.specs.Search.{at}
+use Rattle.meaning.specs.Pick.{pick}
+use Rattle.meaning.specs.Cases.{clash, test, no-both, and-left, same²}
+use Rattle.meaning.specs.Reduced.{has}
+use Rattle.meaning.specs.Trace.{target}
+use Rattle.sets.specs.Sets.{holds, Lowest}
+use Rattle.sets.proofs.Laws.{holds-none}
+use Rattle.table.specs.Table.{Table, table, look, Rows, SameRows, withEdge, or, given}
 
--- what is read past the end counts only there
-past : (T : List ℕ) (i d e : ℕ) → i < length T → getD T i d ≡ getD T i e
-past [] i d e h = absurd (omega arith)
-past (x ∷ xs) zero d e h = refl
-past (x ∷ xs) (suc i) d e h = past xs i d e (omega arith)
+-- ---- one state at one label
 
-pub look-here : (T : List ℕ) (s y : ℕ) → s * 64 + y < length T → y < 64 → look T s y ≡ entry (getD T (s * 64 + y) 0)
+look-label : (T : Table) (s y : ℕ) → y < 64 → look T s y ≡ pick (holds (at (T .labels) s) y) (some (at (T .targets) (s * 64 + y))) none
 unfolding look
-look-here T s y h k = rw (lt-ltb y 64 k) (ap entry (past T (s * 64 + y) 65535 0 h))
+look-label T s y h = rw (lt-ltb y 64 h)
 
-look-label : (T : List ℕ) (s y : ℕ) → y < 64 → look T s y ≡ entry (getD T (s * 64 + y) 65535)
+look-out : (T : Table) (s y : ℕ) → (y < 64 → ⊥) → look T s y ≡ none
 unfolding look
-look-label T s y k = rw (lt-ltb y 64 k)
+look-out T s y h = rw (le-ltb y 64 (omega arith))
 
-look-out : (T : List ℕ) (s y : ℕ) → (y < 64 → ⊥) → look T s y ≡ none
-unfolding look
-look-out T s y k = rw (le-ltb y 64 (omega arith))
+pub look-some : (T : Table) (s y : ℕ) → y < 64 → holds (at (T .labels) s) y ≡ true → look T s y ≡ some (at (T .targets) (s * 64 + y))
+look-some T s y h e = look-label T s y h ∙ rw e
 
-blank : (k i : ℕ) → _≡_ {A = ℕ} (getD (replicate k 65535) i 65535) 65535
-blank zero i = refl
-blank (suc k) zero = refl
-blank (suc k) (suc i) = blank k i
-
-pub look-empty : (k : ℕ) → look (replicate k 65535) ≡ target []
-unfolding target
-look-empty k = fun-ext λ s. fun-ext λ y. go s y (decLt y 64)
+pub look-none : (T : Table) (s y : ℕ) → holds (at (T .labels) s) y ≡ false → look T s y ≡ none
+look-none T s y e = go (decLt y 64)
   where
-    go : (s y : ℕ) → Dec (y < 64) → look (replicate k 65535) s y ≡ none
-    go s y (yes h) = look-label (replicate k 65535) s y h ∙ rw (blank k (s * 64 + y))
-    go s y (no h) = look-out (replicate k 65535) s y h
+    go : Dec (y < 64) → look T s y ≡ none
+    go (yes h) = look-label T s y h ∙ rw e
+    go (no h) = look-out T s y h
 
--- ---- one entry stored
+-- whether a state has a label is whether the label is in its set
+pub look-has : (T : Table) (s y : ℕ) → y < 64 → has (look T s y) ≡ holds (at (T .labels) s) y
+look-has T s y h = test (holds (at (T .labels) s) y)
+    (λ q. ap has (look-some T s y h q) ∙ sym q)
+    (λ q. ap has (look-none T s y q) ∙ sym q)
 
-module _ (T : List ℕ) (a b v : ℕ) (state : a * 64 + b < length T) (label : b < 64) where
-  abbrev stored : List ℕ
-  stored = set T (a * 64 + b) v
+-- an edge that is looked up has its label in the set, below 64, and its target in the table
+pub look-there : (T : Table) (s y t : ℕ) → look T s y ≡ some t → (y < 64) × (holds (at (T .labels) s) y ≡ true) × (at (T .targets) (s * 64 + y) ≡ t)
+look-there T s y t e = go (decLt y 64)
+  where
+    go : Dec (y < 64) → (y < 64) × (holds (at (T .labels) s) y ≡ true) × (at (T .targets) (s * 64 + y) ≡ t)
+    go (yes h) = test (holds (at (T .labels) s) y)
+        (λ q. let is = sym (look-some T s y h q) ∙ e in (h, q, cc))
+        (λ q. let is = sym (look-none T s y q) ∙ e in clash cc)
+    go (no h) = let is = sym (look-out T s y h) ∙ e in clash cc
 
-  pub look-stored : look stored a b ≡ entry v
-  look-stored = look-label stored a b label ∙ ap entry (getD-set-same T (a * 64 + b) v 65535 state)
+pub look-empty : (targets : List ℕ) (k : ℕ) → look (table targets (replicate k 0)) ≡ target []
+unfolding target
+look-empty targets k = fun-ext λ s. fun-ext λ y. look-none (table targets (replicate k 0)) s y (ap (λ (x : ℕ). holds x y) (zero-at k s) ∙ holds-none y)
+  where
+    zero-at : (k s : ℕ) → _≡_ {A = ℕ} (at (replicate k 0) s) 0
+    zero-at zero s = refl
+    zero-at (suc k) zero = refl
+    zero-at (suc k) (suc s) = zero-at k s
 
-  pub look-kept : (s y : ℕ) → (a ≡ s → b ≡ y → ⊥) → look stored s y ≡ look T s y
-  look-kept s y h = go (decLt y 64)
-    where
-      go : Dec (y < 64) → look stored s y ≡ look T s y
-      go (yes q) = look-label stored s y q ∙ ap entry (getD-set-other T (a * 64 + b) (s * 64 + y) v 65535 (λ z. h (omega arith) (omega arith))) ∙ sym (look-label T s y q)
-      go (no q) = look-out stored s y q ∙ sym (look-out T s y q)
-
--- an edge without a fault leaves a state of the filter
-pub source-low : (n m i : ℕ) (before : Option Edge) (e : Edge) → faultAt i (edgeFault n m before e) none ≡ none → e .source < n
-unfolding firstFault each inside
-source-low n m i before e h =
-    let all = fault-free n m i before (e ∷ []) h .all-inside in
-    ltb-true (e .source) n (and-left (ltb (e .source) n) _ (and-left (inside n m e) _ all))
+-- where two tables have the same labels and targets they look up the same
+same-look : (T T′ : Table) (s y : ℕ) → (y < 64 → holds (at (T′ .labels) s) y ≡ holds (at (T .labels) s) y) →
+    (y < 64 → holds (at (T .labels) s) y ≡ true → at (T′ .targets) (s * 64 + y) ≡ at (T .targets) (s * 64 + y)) → look T′ s y ≡ look T s y
+same-look T T′ s y labels targets = go (decLt y 64)
+  where
+    go : Dec (y < 64) → look T′ s y ≡ look T s y
+    go (no h) = look-out T′ s y h ∙ sym (look-out T s y h)
+    go (yes h) = test (holds (at (T .labels) s) y)
+        (λ q. look-some T′ s y h (labels h ∙ q) ∙ ap some (targets h q) ∙ sym (look-some T s y h q))
+        (λ q. look-none T′ s y (labels h ∙ q) ∙ sym (look-none T s y q))
 
 -- ---- one edge more
 
-module _ (T : List ℕ) (es : List Edge) (e : Edge) (rest : List Edge) (source : e .source * 64 + e .label < length T) (label : e .label < 64) (to : e .target < 256)
-    (is : look T ≡ target es) (order : ascending (es ++ (e ∷ rest)) ≡ true) where
-  abbrev more : List ℕ
-  more = set T (e .source * 64 + e .label) (e .target)
+module _ (T : Table) (s y t v : ℕ) (hy : y < 64) (rows : Rows T (s + 1)) (v-is : (j : ℕ) → holds v j ≡ (eqb y j || holds (at (T .labels) s) j)) where
+  abbrev more : Table
+  more = table (set (T .targets) (s * 64 + y) t) (set (T .labels) s v)
 
-  apart : (s y : ℕ) → (e .source ≡ s → e .label ≡ y → ⊥) → stands e s y ≡ false → look more s y ≡ target (es ++ (e ∷ [])) s y
-  apart s y h k = look-kept T (e .source) (e .label) (e .target) source label s y h ∙ ap (λ (f : ℕ → ℕ → Option ℕ). f s y) is ∙ sym (target-before es e s y k)
+  set-here : at (more .labels) s ≡ v
+  set-here = getD-set-same (T .labels) s v 0 (omega (arith, rows .labels-long))
 
-  here : look more (e .source) (e .label) ≡ target (es ++ (e ∷ [])) (e .source) (e .label)
+  here : look more s y ≡ some t
   here =
-      look-stored T (e .source) (e .label) (e .target) source label
-      ∙ rw (lt-ltb (e .target) 256 to)
-      (sym (target-snoc es e (e .source) (e .label) (target-fresh es e rest order) ∙ rw (eq-eqb (e .source) (e .source) refl, eq-eqb (e .label) (e .label) refl)))
+      look-some more s y hy (ap (λ (x : ℕ). holds x y) set-here ∙ v-is y ∙ rw (eq-eqb y y refl))
+      ∙ ap some (getD-set-same (T .targets) (s * 64 + y) t 0 (omega (arith, rows .targets-long)))
 
-  -- one edge more, behind those that are there
-  pub look-more : look (set T (e .source * 64 + e .label) (e .target)) ≡ target (es ++ (e ∷ []))
-  look-more = fun-ext λ s. fun-ext λ y. go s y (ℕ-discrete (e .source) s) (ℕ-discrete (e .label) y)
+  elsewhere : (a b : ℕ) → (s ≡ a → y ≡ b → ⊥) → look more a b ≡ look T a b
+  elsewhere a b other = same-look T more a b (λ h. label (ℕ-discrete s a)) (λ h q. getD-set-other (T .targets) (s * 64 + y) (a * 64 + b) t 0 (λ z. other (omega arith) (omega arith)))
     where
-      go : (s y : ℕ) → Dec (e .source ≡ s) → Dec (e .label ≡ y) → look more s y ≡ target (es ++ (e ∷ [])) s y
-      go s y (yes a) (yes b) =
-          subst (λ (z : ℕ). look more z y ≡ target (es ++ (e ∷ [])) z y) a (subst (λ (z : ℕ). look more (e .source) z ≡ target (es ++ (e ∷ [])) (e .source) z) b here)
-      go s y (yes a) (no b) = apart s y (λ u w. b w) (rw (eq-eqb (e .source) s a, ne-eqb (e .label) y b))
-      go s y (no a) b = apart s y (λ u w. a u) (rw (ne-eqb (e .source) s a))
+      label : Dec (s ≡ a) → holds (at (more .labels) a) b ≡ holds (at (T .labels) a) b
+      label (no e) = ap (λ (x : ℕ). holds x b) (getD-set-other (T .labels) s a v 0 (λ z. e (sym z)))
+      label (yes e) = rw (← e) (ap (λ (x : ℕ). holds x b) set-here ∙ v-is b ∙ rw (ne-eqb y b (other e)))
+
+  pub look-put : look more ≡ withEdge (look T) s y t
+  unfolding withEdge
+  look-put = fun-ext λ a. fun-ext λ b. test (eqb s a && eqb y b)
+      (λ q. let w = same² s a y b q in rw (q, ← w .0, ← w .1) here)
+      (λ q. rw q (elsewhere a b (λ d e. no-both {b = eqb s a && eqb y b} (rw (eq-eqb s a d, eq-eqb y b e)) q)))
 
 -- ---- a state given the edges of another
 
-module _ (next : ℕ → ℕ → Option ℕ) (from to : ℕ) where
-  pub given-none : next ≡ given next from to 0
-  unfolding given
-  given-none = fun-ext λ s. fun-ext λ y. test (eqb s to) (λ q. rw (q, le-ltb y 0 (omega arith))) (λ q. rw q)
+-- targets as they are while the labels of `rest` are still to be given to state `to`, whose own labels are `own`, from one with labels `other`
+pub record Giving (before : List ℕ) (from to own other : ℕ) (targets : List ℕ) (rest : ℕ) : Type 0 where
+  pub same-length : length targets ≡ length before
+  pub others : (s y : ℕ) → y < 64 → (to ≡ s → ⊥) → at targets (s * 64 + y) ≡ at before (s * 64 + y)
+  pub kept : (y : ℕ) → y < 64 → holds own y ≡ true → at targets (to * 64 + y) ≡ at before (to * 64 + y)
+  pub done : (y : ℕ) → y < 64 → holds other y ≡ true → holds own y ≡ false → holds rest y ≡ false → at targets (to * 64 + y) ≡ at before (from * 64 + y)
+  pub left : (y : ℕ) → holds rest y ≡ true → holds own y ≡ false
 
-  pub given-here : (y s : ℕ) → given next from to y s y ≡ next s y
-  unfolding given
-  given-here y s = test (eqb s to) (λ q. rw (q, le-ltb y y (omega arith))) (λ q. rw q)
-
-  pub given-more : (y : ℕ) (f : ℕ → ℕ → Option ℕ) → f to y ≡ or (next to y) (next from y) →
-      ((s z : ℕ) → (to ≡ s → y ≡ z → ⊥) → f s z ≡ given next from to y s z) → f ≡ given next from to (y + 1)
-  unfolding given
-  given-more y f here else = fun-ext λ s. fun-ext λ z. go s z (ℕ-discrete to s) (ℕ-discrete y z)
+module _ (before : List ℕ) (from to own other : ℕ) where
+  pub giving-begun : (rest : ℕ) → ((j : ℕ) → holds rest j ≡ (holds other j && not (holds own j))) → Giving before from to own other before rest
+  giving-begun rest is = record {
+    same-length = refl;
+    others = λ s y h e. refl;
+    kept = λ y h q. refl;
+    done = λ y h p q r. no-both {b = holds rest y} (is y ∙ rw (p, q)) r;
+    left = λ y q. test (holds own y) (λ p. no-both {b = holds rest y} q (is y ∙ rw p (and-no (holds other y)))) (λ p. p);
+  }
     where
-      past : (s z : ℕ) → (y ≡ z → ⊥) → ltb z y ≡ ltb z (y + 1)
-      past s z h = test (ltb z y)
-          (λ q. q ∙ sym (lt-ltb z (y + 1) (omega (arith, ltb-true z y q))))
-          (λ q. q ∙ sym (le-ltb z (y + 1) (omega (arith, ltb-false z y q, order))))
-        where
-          order : (z ≡ y → ⊥)
-          order e = h (sym e)
+      and-no : (b : Bool) → (b && false) ≡ false
+      and-no true = refl
+      and-no false = refl
 
-      go : (s z : ℕ) → Dec (to ≡ s) → Dec (y ≡ z) → f s z ≡ given next from to (y + 1) s z
-      go s z (yes a) (yes b) =
-          subst (λ (k : ℕ). f k z ≡ given next from to (y + 1) k z) a
-          (subst (λ (k : ℕ). f to k ≡ given next from to (y + 1) to k) b (here ∙ rw (eq-eqb to to refl, lt-ltb y (y + 1) (omega arith))))
-      go s z (yes a) (no b) = else s z (λ u w. b w) ∙ rw (past s z b)
-      go s z (no a) b = else s z (λ u w. a u) ∙ rw (ne-eqb s to (λ u. a (sym u)))
+  pub giving-more : (targets : List ℕ) (rest rest′ k : ℕ) → Giving before from to own other targets rest → (from ≡ to → ⊥) → to * 64 + 64 ≤ length before → k < 64
+      → holds rest k ≡ true → ((j : ℕ) → holds rest′ j ≡ (holds rest j && not (eqb k j)))
+      → Giving before from to own other (set targets (to * 64 + k) (at targets (from * 64 + k))) rest′
+  giving-more targets rest rest′ k g apart room hk there is = record {
+    same-length = length-set targets (to * 64 + k) (at targets (from * 64 + k)) ∙ g .same-length;
+    others = λ s y h e. kept-at s y (λ z. e (omega arith)) ∙ g .others s y h e;
+    kept = λ y h q. kept-at to y (λ z. differs y q (omega arith)) ∙ g .kept y h q;
+    done = λ y h p q r. go y h p q r (ℕ-discrete k y);
+    left = λ y q. g .left y (and-left (holds rest y) (not (eqb k y)) (sym (is y) ∙ q));
+  }
+    where
+      kept-at : (s y : ℕ) → (s * 64 + y ≡ to * 64 + k → ⊥) → at (set targets (to * 64 + k) (at targets (from * 64 + k))) (s * 64 + y) ≡ at targets (s * 64 + y)
+      kept-at s y e = getD-set-other targets (to * 64 + k) (s * 64 + y) (at targets (from * 64 + k)) 0 e
 
--- one label further, in a table where the labels before it are given
-module _ (T₀ T : List ℕ) (from to y : ℕ) (hf : from * 64 + y < length T) (ht : to * 64 + y < length T) (hy : y < 64) (so-far : look T ≡ given (look T₀) from to y) where
-  -- the entries of label y are still those of the beginning
-  same : (s : ℕ) → look T s y ≡ look T₀ s y
-  same s = ap (λ (f : ℕ → ℕ → Option ℕ). f s y) so-far ∙ given-here (look T₀) from to y s
+      differs : (y : ℕ) → holds own y ≡ true → k ≡ y → ⊥
+      differs y q e = no-both {b = holds own y} q (rw (← e) (g .left k there))
 
-  read : (s : ℕ) → s * 64 + y < length T → entry (getD T (s * 64 + y) 0) ≡ look T₀ s y
-  read s h = sym (look-here T s y h hy) ∙ same s
+      go : (y : ℕ) → y < 64 → holds other y ≡ true → holds own y ≡ false → holds rest′ y ≡ false → Dec (k ≡ y) → at (set targets (to * 64 + k) (at targets (from * 64 + k))) (to * 64 + y) ≡ at before (from * 64 + y)
+      go y h p q r (yes e) =
+          rw (← e) (getD-set-same targets (to * 64 + k) (at targets (from * 64 + k)) 0 (omega (arith, g .same-length)) ∙ g .others from k hk (λ z. apart (sym z)))
+      go y h p q r (no e) = kept-at to y (λ z. e (omega arith)) ∙ g .done y h p q (test (holds rest y) (λ w. no-both {b = holds rest′ y} (is y ∙ rw (w, ne-eqb k y e)) r) (λ w. w))
 
-  -- what is stored is the state's own edge, or else the other's
-  stored-there : (v : ℕ) → entry v ≡ or (look T₀ to y) (look T₀ from y) → look (set T (to * 64 + y) v) ≡ given (look T₀) from to (y + 1)
-  stored-there v e =
-      given-more (look T₀) from to y (look (set T (to * 64 + y) v)) (look-stored T to y v ht hy ∙ e)
-      (λ s z other. look-kept T to y v ht hy s z other ∙ ap (λ (f : ℕ → ℕ → Option ℕ). f s z) so-far)
+module _ (T : Table) (from to both : ℕ) (apart : (from ≡ to → ⊥)) (rows : Rows T (to + 1))
+    (both-is : (j : ℕ) → holds both j ≡ (holds (at (T .labels) to) j || holds (at (T .labels) from) j)) (targets : List ℕ)
+    (g : Giving (T .targets) from to (at (T .labels) to) (at (T .labels) from) targets 0) where
+  abbrev gave : Table
+  gave = table targets (set (T .labels) to both)
 
-  pub give-own : (v : ℕ) → v ≡ getD T (to * 64 + y) 0 → getD T (to * 64 + y) 0 < 256 → look (set T (to * 64 + y) v) ≡ given (look T₀) from to (y + 1)
-  give-own v e h =
-      let own : some (getD T (to * 64 + y) 0) ≡ look T₀ to y = sym (rw (lt-ltb _ _ h)) ∙ read to ht in
-      stored-there v (rw (e, ← own, lt-ltb _ _ h))
+  set-to : at (gave .labels) to ≡ both
+  set-to = getD-set-same (T .labels) to both 0 (omega (arith, rows .labels-long))
 
-  pub give-other : (v : ℕ) → v ≡ getD T (from * 64 + y) 0 → 256 ≤ getD T (to * 64 + y) 0 → look (set T (to * 64 + y) v) ≡ given (look T₀) from to (y + 1)
-  give-other v e h =
-      let lacks : none ≡ look T₀ to y = sym (rw (le-ltb _ _ h)) ∙ read to ht in
-      stored-there v (ap entry e ∙ read from hf ∙ rw (← lacks))
+  to-label : (y : ℕ) → y < 64 → look gave to y ≡ or (look T to y) (look T from y)
+  to-label y h = test (holds (at (T .labels) to) y)
+      (λ q. look-some gave to y h (ap (λ (x : ℕ). holds x y) set-to ∙ both-is y ∙ rw q) ∙ ap some (g .kept y h q) ∙ rw (look-some T to y h q))
+      (λ q. test (holds (at (T .labels) from) y)
+      (λ p. look-some gave to y h (ap (λ (x : ℕ). holds x y) set-to ∙ both-is y ∙ rw (q, p)) ∙ ap some (g .done y h p q (holds-none y)) ∙ rw (look-none T to y q, look-some T from y h p))
+      (λ p. look-none gave to y (ap (λ (x : ℕ). holds x y) set-to ∙ both-is y ∙ rw (q, p)) ∙ rw (look-none T to y q, look-none T from y p)))
 
--- ---- the table of a file
-
--- an empty table of k entries serves a file whose states need no more
-pub serves : (s T : List ℕ) (k : ℕ) → (T ≡ replicate k 65535) × (length T ≡ k) → statesIn large s * 64 ≤ k → (T ≡ replicate (length T) 65535) × (statesIn large s * 64 ≤ length T)
-serves s T k empty h = (empty .0 ∙ ap (λ (j : ℕ). replicate j 65535) (sym (empty .1)), omega (arith, empty .1))
-
--- what the table of an accepted file gives is an edge between states of the file, at a label of the file
-pub look-within : (s vs T : List ℕ) → checkOf large s ≡ accepted vs → look T ≡ edge (filterIn large s) →
-    (a y t : ℕ) → look T a y ≡ some t → (a < statesIn large s) × (y < labelsIn large s) × (t < statesIn large s)
-unfolding filterIn
-look-within s vs T h is a y t e =
-    let F = filterIn large s in
-    let few : states F ≤ 256 = rw (length-filter large s) (states-high large large-usable s) in
-    let v = fits F few (checked-in-order large large-usable s vs h) .within a y t (sym (ap (λ (f : ℕ → ℕ → Option ℕ). f a y) is) ∙ e) in
-    (omega (arith, v .0, length-filter large s), v .1, omega (arith, v .2, length-filter large s))
-
--- ---- colours
-
--- zeros behind a list are what reading past its end gives
-pub padded : (xs : List ℕ) (n k : ℕ) → _≡_ {A = ℕ → ℕ} (λ s. getD (xs ++ drop n (replicate k 0)) s 0) (λ s. getD xs s 0)
-padded xs n k = fun-ext λ s. go s (decLt s (length xs))
-  where
-    zeros : (k n s : ℕ) → _≡_ {A = ℕ} (getD (drop n (replicate k 0)) s 0) 0
-    zeros k n s = getD-drop n (replicate k 0) s 0 ∙ zero-at k (n + s)
-      where
-        zero-at : (k j : ℕ) → _≡_ {A = ℕ} (getD (replicate k 0) j 0) 0
-        zero-at zero j = refl
-        zero-at (suc k) zero = refl
-        zero-at (suc k) (suc j) = zero-at k j
-
-    go : (s : ℕ) → Dec (s < length xs) → getD (xs ++ drop n (replicate k 0)) s 0 ≡ getD xs s 0
-    go s (yes l) = List·getD-append xs (drop n (replicate k 0)) 0 s l
-    go s (no l) =
-        let e : length xs + (s - length xs) ≡ s = omega arith in
-        ap (λ (j : ℕ). getD (xs ++ drop n (replicate k 0)) j 0) (sym e) ∙ getD-append-add xs (drop n (replicate k 0)) (s - length xs) 0 ∙ zeros k n (s - length xs)
-        ∙ sym (List·getD-eq-default xs 0 {n = s} (omega arith))
+  pub look-gave : look gave ≡ given (look T) from to
+  unfolding given
+  look-gave = fun-ext λ s. fun-ext λ y. test (eqb s to)
+      (λ q. rw (q, eqb-true s to q) (go y (decLt y 64)))
+      (λ q. rw q
+      (same-look T gave s y (λ h. ap (λ (x : ℕ). holds x y) (getD-set-other (T .labels) to s both 0 (eqb-false s to q)))
+      (λ h w. g .others s y h (λ z. eqb-false s to q (sym z)))))
+    where
+      go : (y : ℕ) → Dec (y < 64) → look gave to y ≡ or (look T to y) (look T from y)
+      go y (yes h) = to-label y h
+      go y (no h) = look-out gave to y h ∙ rw (look-out T to y h, look-out T from y h)
