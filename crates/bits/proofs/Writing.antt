@@ -3,7 +3,7 @@
 use mathlib.Core.Path.{_≡_, refl, sym, ap, _∙_}
 use mathlib.Core.List.{List}
 use Prim.Native.Nat.{ℕ, zero, suc, _+_, _*_, _-_, _/_, _%_, _^_, _≤_, _<_}
-use native.Mathlib.Nat.{zero-add, add-zero, add-suc, suc-add, add-comm, mul-one, mul-assoc, pow-suc, add-assoc, mod-lt, mod-eq-of-lt, div-one, mul-le-mul-left, div-lt-iff-lt-mul}
+use native.Mathlib.Nat.{zero-add, add-zero, add-suc, suc-add, add-comm, mul-one, mul-assoc, suc-mul, pow-suc, add-assoc, mod-lt, mod-eq-of-lt, div-one, mul-le-mul-left, mul-le-mul-right, div-lt-iff-lt-mul}
 use native.Mathlib.Numerals.{add-one, one-add}
 use native.Mathlib.Decide.{decLt, ℕ-discrete}
 use native.Mathlib.Omega.{arith}
@@ -124,6 +124,12 @@ put-split s at i (suc w) v =
 -- two neighbouring fields as one
 pub put-two : (s : List ℕ) (at a b x y : ℕ) → y < 2 ^ b → putField s at (a + b) (x * 2 ^ b + y) ≡ putField (putField s at a x) (at + a) b y
 put-two s at a b x y h = rw (put-split s at a b (x * 2 ^ b + y), high x b h, low x b h)
+
+-- and it fits
+pub append-lt : (a b x y : ℕ) → x < 2 ^ a → y < 2 ^ b → x * 2 ^ b + y < 2 ^ (a + b)
+append-lt a b x y h l =
+    let k : suc x * 2 ^ b ≤ 2 ^ a * 2 ^ b = mul-le-mul-right (2 ^ b) h in
+    rw (pow-add 2 a b) (omega (arith, suc-mul x (2 ^ b)))
 
 -- three neighbouring fields as one
 pub put-three : (s : List ℕ) (at a b c x y z : ℕ) → x < 2 ^ a → y < 2 ^ b → z < 2 ^ c →

@@ -1,50 +1,40 @@
--- Fields that cover whole bytes: what is written does not depend on what was there.
+-- Runs of fields in a part of a list that starts at a byte, and runs that cover whole bytes.
 -- Assumes nothing.
 use mathlib.Core.Path.{_≡_, refl, sym, ap, _∙_}
 use mathlib.Core.List.{List, [], _∷_, _++_}
-use Prim.Native.Nat.{ℕ, _+_, _*_, _-_, _/_, _≤_, _<_}
+use Prim.Native.Nat.{ℕ, _+_, _*_, _-_, _≤_, _<_}
+use native.Mathlib.Nat.{add-assoc}
 use native.Mathlib.Decide.{decLt}
 use native.Mathlib.Omega.{arith}
-use lib.ListN.{length, getD, drop, replicate, length-replicate, getD-replicate, length-append, length-drop, List·getD-append, List·getD-eq-default}
-use lib.Seq.{drop-at, getD-drop, getD-append-add}
-use Rattle.bits.specs.Bits.{Bytes, bitAt, total, fields, putFields, Fit}
+use lib.ListN.{length, take, drop, replicate, length-replicate, length-append, length-drop, take-append-drop}
+use lib.Seq.{length-take-le, take-at, drop-at}
+use Rattle.bits.specs.Bits.{Bytes, bitAt, putField}
 use Rattle.bits.proofs.Reading.{field-cong, ext-bits}
-use Rattle.bits.proofs.Runs.{read-written, fields-bits, length-puts, bytes-puts, puts-after}
-use Rattle.bits.proofs.Parts.{bit-drop}
+use Rattle.bits.proofs.Parts.{bit-drop, bit-front, bit-behind, field-drop, put-drop, bytes-replicate, bytes-append, bytes-drop}
+use Rattle.pen.specs.Runs.{total, fields, putFields, Fit}
+use Rattle.pen.proofs.Runs.{read-written, fields-bits, length-puts, bytes-puts, puts-after}
 
-pub bit-front : (s t : List ℕ) (k : ℕ) → k < length s * 8 → bitAt (s ++ t) k ≡ bitAt s k
-unfolding bitAt
-bit-front s t k h = rw (List·getD-append s t 0 (k / 8) (omega arith))
+pub fields-drop : (s : List ℕ) (a b : ℕ) (ws : List ℕ) → fields (drop a s) b ws ≡ fields s (a * 8 + b) ws
+unfolding fields
+fields-drop s a b [] = refl
+fields-drop s a b (w ∷ ws) = rw (field-drop s a b w, fields-drop s a (b + w) ws, add-assoc (a * 8) b w)
 
-pub bit-behind : (s t : List ℕ) (k : ℕ) → bitAt (s ++ t) (length s * 8 + k) ≡ bitAt t k
-bit-behind s t k = sym (bit-drop (s ++ t) (length s) k) ∙ rw (drop-at s t (length s) refl)
+pub puts-drop : (s : List ℕ) (a b : ℕ) (ws vs : List ℕ) → a ≤ length s →
+    putFields s (a * 8 + b) ws vs ≡ take a s ++ putFields (drop a s) b ws vs
+unfolding putFields
+puts-drop s a b [] vs h = sym (take-append-drop a s)
+puts-drop s a b (w ∷ ws) [] h = sym (take-append-drop a s)
+puts-drop s a b (w ∷ ws) (v ∷ vs) h =
+    let p = take a s in
+    let t = putField (drop a s) b w v in
+    let n : length p ≡ a = length-take-le a s h in
+    rw (put-drop s a b w v h, add-assoc (a * 8) b w, puts-drop (p ++ t) a (b + w) ws vs (omega (arith, length-append p t)), take-at p t a n, drop-at p t a n)
 
 pub fields-front : (s t : List ℕ) (at : ℕ) (ws : List ℕ) → at + total ws ≤ length s * 8 → fields (s ++ t) at ws ≡ fields s at ws
 unfolding fields total
 fields-front s t at [] h = refl
 fields-front s t at (w ∷ ws) h =
     rw (field-cong (s ++ t) s at w (λ j l. bit-front s t (at + j) (omega arith)), fields-front s t (at + w) ws (omega arith))
-
-pub bytes-replicate : (n b : ℕ) → b < 256 → Bytes (replicate n b)
-bytes-replicate n b h i = go (decLt i n)
-  where
-    go : Dec (i < n) → getD (replicate n b) i 0 < 256
-    go (yes l) = rw (getD-replicate n i b 0 l) h
-    go (no m) = rw (List·getD-eq-default (replicate n b) 0 {n = i} (rw (length-replicate n b) (omega arith))) (omega arith)
-
-pub bytes-append : (s t : List ℕ) → Bytes s → Bytes t → Bytes (s ++ t)
-bytes-append s t hs ht i = go (decLt i (length s))
-  where
-    go : Dec (i < length s) → getD (s ++ t) i 0 < 256
-    go (yes l) = rw (List·getD-append s t 0 i l) (hs i)
-    go (no m) =
-        let e : length s + (i - length s) ≡ i = omega arith in
-        let g : getD (s ++ t) i 0 ≡ getD t (i - length s) 0 =
-        ap (λ (k : ℕ). getD (s ++ t) k 0) (sym e) ∙ getD-append-add s t (i - length s) 0 in
-        rw g (ht (i - length s))
-
-pub bytes-drop : (s : List ℕ) (a : ℕ) → Bytes s → Bytes (drop a s)
-bytes-drop s a h i = rw (getD-drop a s i 0) (h (a + i))
 
 -- fields that cover the first n bytes of s make them what they make of n zero bytes, and leave the rest
 pub cover : (s : List ℕ) (n : ℕ) (ws vs : List ℕ) → Bytes s → n ≤ length s → total ws ≡ n * 8 → Fit ws vs →
