@@ -7,8 +7,8 @@ use native.Mathlib.Nat.{add-assoc}
 use native.Mathlib.Decide.{decLt}
 use native.Mathlib.Numerals.{add-one}
 use native.Mathlib.Omega.{arith}
-use lib.ListN.{length, getD, set, take, drop, replicate, length-drop, drop-of-length-le, take-append-drop, length-replicate, getD-replicate}
-use lib.ListN.{List·getD-append, List·getD-eq-default}
+use lib.ListN.{length, getD, set, take, drop, replicate, length-drop, drop-of-length-le, take-append-drop}
+use lib.ListN.{length-replicate, getD-replicate, List·getD-append, List·getD-eq-default}
 use lib.Seq.{take-all, getD-drop, drop-set-add, take-set-le, length-take-le, take-at, drop-at, drop-cons, set-at, getD-append-add}
 use Rattle.bits.specs.Bits.{Bytes, bitAt, field, putBit, putField}
 
@@ -50,7 +50,13 @@ put-drop s a b (suc w) v h =
     let p = take a s in
     let t = putField (drop a s) b w (v / 2) in
     let n : length p ≡ a = length-take-le a s h in
-    rw (put-drop s a b w (v / 2) h, add-assoc (a * 8) b w, put-bit-drop (p ++ t) a (b + w) (v % 2), take-at p t a n, drop-at p t a n)
+    rw (
+      put-drop s a b w (v / 2) h,
+      add-assoc (a * 8) b w,
+      put-bit-drop (p ++ t) a (b + w) (v % 2),
+      take-at p t a n,
+      drop-at p t a n,
+    )
 
 -- the part of a slice from a on, as it is lent, and as it comes back
 pub lent-tail : (s : List ℕ) (a : ℕ) → take (length s - a) (drop a s) ≡ drop a s
@@ -60,9 +66,11 @@ pub back-tail : (s t : List ℕ) (a : ℕ) → take a s ++ (t ++ drop (length s 
 back-tail s t a = rw (drop-of-length-le (drop a s) {i = length s - a} (rw (length-drop a s) (omega arith)), append-nil t)
 
 -- a store behind a part that is made
-pub store-more : (xs d : List ℕ) (n v : ℕ) → length xs ≡ n → n < length d → set (xs ++ drop n d) n v ≡ (xs ++ (v ∷ [])) ++ drop (n + 1) d
+pub store-more : (xs d : List ℕ) (n v : ℕ) → length xs ≡ n → n < length d →
+    set (xs ++ drop n d) n v ≡ (xs ++ (v ∷ [])) ++ drop (n + 1) d
 store-more xs d n v e h =
-    rw (drop-cons d n 0 h, set-at xs (getD d n 0) (drop (suc n) d) v n e, add-one n) (sym (append-assoc xs (v ∷ []) (drop (suc n) d)))
+    rw (drop-cons d n 0 h, set-at xs (getD d n 0) (drop (suc n) d) v n e, add-one n)
+    (sym (append-assoc xs (v ∷ []) (drop (suc n) d)))
 
 -- ---- lists of bytes
 

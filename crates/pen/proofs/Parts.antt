@@ -28,7 +28,13 @@ puts-drop s a b (w ∷ ws) (v ∷ vs) h =
     let p = take a s in
     let t = putField (drop a s) b w v in
     let n : length p ≡ a = length-take-le a s h in
-    rw (put-drop s a b w v h, add-assoc (a * 8) b w, puts-drop (p ++ t) a (b + w) ws vs (omega (arith, length-append p t)), take-at p t a n, drop-at p t a n)
+    rw (
+      put-drop s a b w v h,
+      add-assoc (a * 8) b w,
+      puts-drop (p ++ t) a (b + w) ws vs (omega (arith, length-append p t)),
+      take-at p t a n,
+      drop-at p t a n,
+    )
 
 pub fields-front : (s t : List ℕ) (at : ℕ) (ws : List ℕ) → at + total ws ≤ length s * 8 → fields (s ++ t) at ws ≡ fields s at ws
 unfolding fields total
@@ -40,7 +46,8 @@ fields-front s t at (w ∷ ws) h =
 pub cover : (s : List ℕ) (n : ℕ) (ws vs : List ℕ) → Bytes s → n ≤ length s → total ws ≡ n * 8 → Fit ws vs →
     putFields s 0 ws vs ≡ putFields (replicate n 0) 0 ws vs ++ drop n s
 cover s n ws vs h l c f =
-    ext-bits x (a ++ r) (bytes-puts s 0 ws vs h) (bytes-append a r (bytes-puts z 0 ws vs (bytes-replicate n 0 (omega arith))) (bytes-drop s n h)) len bits
+    ext-bits x (a ++ r) (bytes-puts s 0 ws vs h)
+    (bytes-append a r (bytes-puts z 0 ws vs (bytes-replicate n 0 (omega arith))) (bytes-drop s n h)) len bits
   where
     z : List ℕ
     z = replicate n 0

@@ -1,6 +1,6 @@
 -- Laws of a pen: what is drawn behind what is drawn, a field joined to the bits that a pen holds, and four bytes of them stored.
 -- Assumes nothing.
-use mathlib.Core.Path.{_≡_, refl, sym, ap, ap₂, _∙_}
+use mathlib.Core.Path.{_≡_, refl, sym, ap, _∙_}
 use mathlib.Core.List.{List, [], _∷_, _++_}
 use Prim.Native.Nat.{ℕ, _+_, _*_, _/_, _%_, _^_, _≤_, _<_}
 use native.Mathlib.Nat.{mod-eq-of-lt}
@@ -38,7 +38,8 @@ drawn-length {s₀} {at} {ws} {vs} {s} {pen} d =
 
 -- three fields drawn as one
 pub drawn-three : {s₀ : List ℕ} {at : ℕ} {s : List ℕ} {pen : Pen} (a b c x y z : ℕ) → x < 2 ^ a → y < 2 ^ b → z < 2 ^ c →
-    Drawn s₀ at ((a + b + c) ∷ []) (((x * 2 ^ b + y) * 2 ^ c + z) ∷ []) s pen → Drawn s₀ at (a ∷ b ∷ c ∷ []) (x ∷ y ∷ z ∷ []) s pen
+    Drawn s₀ at ((a + b + c) ∷ []) (((x * 2 ^ b + y) * 2 ^ c + z) ∷ []) s pen →
+    Drawn s₀ at (a ∷ b ∷ c ∷ []) (x ∷ y ∷ z ∷ []) s pen
 unfolding total putFields Fit
 drawn-three {s₀} {at} a b c x y z hx hy hz d = record {
   ink = d .ink ∙ put-three s₀ at a b c x y z hx hy hz;

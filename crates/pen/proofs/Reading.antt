@@ -43,8 +43,8 @@ pub read-all : {s : List ℕ} {at w n : ℕ} {d out : List ℕ} {i p : ℕ} → 
 read-all {s} {at} {w} {n} {d} r h = r .made ∙ ap (λ (k : ℕ). fields s at (replicate k w) ++ drop k d) (le-antisymm (r .few) h)
 
 -- k fields more end before the run does
-pub read-near : {s : List ℕ} {at w n : ℕ} {d out : List ℕ} {i p : ℕ} (k m : ℕ) → Read s at w n d out i p → i + k ≤ n → at + n * w < m →
-    p + k * w < m
+pub read-near : {s : List ℕ} {at w n : ℕ} {d out : List ℕ} {i p : ℕ} (k m : ℕ) → Read s at w n d out i p → i + k ≤ n →
+    at + n * w < m → p + k * w < m
 read-near {s} {at} {w} {n} {d} {out} {i} k m r h l = rw (r .place) (room-more at w i k n m h l)
 
 -- three fields of one width that are read as one
@@ -57,7 +57,8 @@ pub three : (s : List ℕ) (at w v : ℕ) → v ≡ field s at (3 * w) → Three
 three s at w v h =
     let e : 3 * w ≡ w + w + w = omega arith in
     let place : at + (w + w) ≡ at + w + w = omega arith in
-    let all : v ≡ field s at (w + w) * 2 ^ w + field s (at + w + w) w = h ∙ ap (field s at) e ∙ field-split s at (w + w) w ∙ rw place in
+    let all : v ≡ field s at (w + w) * 2 ^ w + field s (at + w + w) w = h ∙ ap (field s at) e ∙ field-split s at (w + w) w
+    ∙ rw place in
     let both = field-split s at w w in
     rw all record {
       first = rw (high (field s at (w + w)) w (field-lt s (at + w + w) w), both) (high (field s at w) w (field-lt s (at + w) w));
@@ -65,9 +66,10 @@ three s at w v h =
       third = low (field s at (w + w)) w (field-lt s (at + w + w) w);
     }
 
-pub read-three : {s : List ℕ} {at w n : ℕ} {d out : List ℕ} {i p : ℕ} (v : ℕ) → Read s at w n d out i p → i + 3 ≤ n → n ≤ length d →
-    Three s p w v →
-    Read s at w n d (set (set (set out i (v / 2 ^ w / 2 ^ w)) (i + 1) (v / 2 ^ w % 2 ^ w)) (i + 2) (v % 2 ^ w)) (i + 3) (p + 3 * w)
+pub read-three : {s : List ℕ} {at w n : ℕ} {d out : List ℕ} {i p : ℕ} (v : ℕ) → Read s at w n d out i p → i + 3 ≤ n →
+    n ≤ length d → Three s p w v →
+    Read s at w n d (set (set (set out i (v / 2 ^ w / 2 ^ w)) (i + 1) (v / 2 ^ w % 2 ^ w)) (i + 2) (v % 2 ^ w)) (i + 3)
+    (p + 3 * w)
 read-three {s} {at} {w} {n} {d} {out} {i} {p} v r h l t =
     let i2 : i + 2 ≡ i + 1 + 1 = omega arith in
     let i3 : i + 3 ≡ i + 1 + 1 + 1 = omega arith in
@@ -85,6 +87,10 @@ run-rest s d out t at w r n h e f =
     let all : r + (n - r) ≡ n = omega arith in
     let whole : fields s at (replicate n w) ≡ xs ++ fields s (at + r * w) (replicate (n - r) w) =
     ap (λ (k : ℕ). fields s at (replicate k w)) (sym all)
-    ∙ rw (← replicate-append-replicate r (n - r) w, fields-append s at (replicate r w) (replicate (n - r) w), total-replicate r w) in
+    ∙ rw (
+      ← replicate-append-replicate r (n - r) w,
+      fields-append s at (replicate r w) (replicate (n - r) w),
+      total-replicate r w,
+    ) in
     rw (f, e, take-at xs (drop r d) r l, drop-at xs (drop r d) r l, drop-drop (n - r) r d, all, whole)
     (sym (append-assoc xs (fields s (at + r * w) (replicate (n - r) w)) (drop n d)))

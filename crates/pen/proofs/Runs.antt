@@ -47,10 +47,12 @@ fit-run (suc n) w (v ∷ vs) e h = (h 0, fit-run n w vs (omega arith) (λ i. h (
 
 -- ---- reading
 
-pub fields-append : (s : List ℕ) (at : ℕ) (us ws : List ℕ) → fields s at (us ++ ws) ≡ fields s at us ++ fields s (at + total us) ws
+pub fields-append : (s : List ℕ) (at : ℕ) (us ws : List ℕ) →
+    fields s at (us ++ ws) ≡ fields s at us ++ fields s (at + total us) ws
 unfolding fields total
 fields-append s at [] ws = rw (add-zero at)
-fields-append s at (u ∷ us) ws = ap {B = List ℕ} (λ r. field s at u ∷ r) (fields-append s (at + u) us ws ∙ rw (add-assoc at u (total us)))
+fields-append s at (u ∷ us) ws =
+    ap {B = List ℕ} (λ r. field s at u ∷ r) (fields-append s (at + u) us ws ∙ rw (add-assoc at u (total us)))
 
 pub length-fields : (s : List ℕ) (at : ℕ) (ws : List ℕ) → length (fields s at ws) ≡ length ws
 unfolding fields
@@ -83,7 +85,8 @@ unfolding putFields total
 puts-append s at [] ws [] xs e = rw (add-zero at)
 puts-append s at [] ws (v ∷ vs) xs e = absurd (omega arith)
 puts-append s at (u ∷ us) ws [] xs e = absurd (omega arith)
-puts-append s at (u ∷ us) ws (v ∷ vs) xs e = puts-append (putField s at u v) (at + u) us ws vs xs (omega arith) ∙ rw (add-assoc at u (total us))
+puts-append s at (u ∷ us) ws (v ∷ vs) xs e = puts-append (putField s at u v) (at + u) us ws vs xs (omega arith)
+    ∙ rw (add-assoc at u (total us))
 
 -- ---- frame: all other bits are as they were
 
@@ -97,12 +100,14 @@ pub puts-after : (s : List ℕ) (at : ℕ) (ws vs : List ℕ) (j : ℕ) → at +
 unfolding putFields total
 puts-after s at [] vs j h = refl
 puts-after s at (w ∷ ws) [] j h = refl
-puts-after s at (w ∷ ws) (v ∷ vs) j h = puts-after (putField s at w v) (at + w) ws vs j (omega arith) ∙ put-after s at w v j (omega arith)
+puts-after s at (w ∷ ws) (v ∷ vs) j h = puts-after (putField s at w v) (at + w) ws vs j (omega arith)
+    ∙ put-after s at w v j (omega arith)
 
 -- ---- reading and writing undo each other
 
 -- what was written is read
-pub read-written : (s : List ℕ) (at : ℕ) (ws vs : List ℕ) → at + total ws ≤ length s * 8 → Fit ws vs → fields (putFields s at ws vs) at ws ≡ vs
+pub read-written : (s : List ℕ) (at : ℕ) (ws vs : List ℕ) → at + total ws ≤ length s * 8 → Fit ws vs →
+    fields (putFields s at ws vs) at ws ≡ vs
 unfolding putFields fields total Fit
 read-written s at [] [] h f = refl
 read-written s at [] (v ∷ vs) h f = absurd f
@@ -150,7 +155,8 @@ write-read s t ws hs ht e c =
 
 -- ---- runs of one width, one field more
 
-pub run-more : (s : List ℕ) (at w n : ℕ) → fields s at (replicate (n + 1) w) ≡ fields s at (replicate n w) ++ (field s (at + n * w) w ∷ [])
+pub run-more : (s : List ℕ) (at w n : ℕ) →
+    fields s at (replicate (n + 1) w) ≡ fields s at (replicate n w) ++ (field s (at + n * w) w ∷ [])
 unfolding fields
 run-more s at w n =
     rw (← replicate-append-replicate n 1 w, fields-append s at (replicate n w) (replicate 1 w), total-replicate n w)

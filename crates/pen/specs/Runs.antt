@@ -63,7 +63,7 @@ pub record Pushable (pen : Pen) (width value : ℕ) : Type 0 where
   pub small : value < 2 ^ width
   pub near : placeOf pen + width < 2 ^ 64
 
--- fields of these widths and values were written to s₀ from bit `at` on: they are in s or held by the pen, which can go on behind them
+-- s₀ with these fields written from bit `at` on is what s and the pen hold together, and the pen can go on behind them
 pub record Drawn (s₀ : List ℕ) (at : ℕ) (ws vs s : List ℕ) (pen : Pen) : Type 0 where
   pub ink : inked s pen ≡ putFields s₀ at ws vs
   pub place : placeOf pen ≡ at + total ws

@@ -1,5 +1,5 @@
-// Fields one behind another in a slice of bytes, read and written. A pen holds back the bits of the last fields written and stores
-// four bytes at a time, so that no byte is read that was stored just before: the processor would wait for it.
+// Fields one behind another in a slice of bytes, read and written. A pen holds back the bits of the last fields and stores four
+// bytes at a time, so that no byte is read that was stored just before: the processor would wait for it.
 ghost use mathlib.Core.Path.{_≡_};
 ghost use mathlib.Core.List.{[], _∷_, _++_};
 ghost use Prim.Native.Nat.{_≤_};
@@ -58,7 +58,8 @@ pub fn finish(s: &mut [u8], pen: Pen)
 // Writes the values one after another as fields of `width` bits from bit `at` on; all other bits stay.
 pub fn put_run(s: &mut [u8], at: usize, width: usize, values: &[u8])
     requires { ⌜ Writable at width (now values) ⌝ }
-    ensures { λ _. ⌜ now (s .exit) ≡ putFields (now (s .entry)) at (replicate (length (now (values .entry))) width) (now (values .entry)) ⌝ }
+    ensures { λ _. ⌜ now (s .exit) ≡
+        putFields (now (s .entry)) at (replicate (length (now (values .entry))) width) (now (values .entry)) ⌝ }
 {
     let mut pen = begin(s, at);
     let mut i = 0;

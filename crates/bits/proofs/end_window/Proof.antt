@@ -12,7 +12,12 @@ returns c =
     let known = c .before .before .before .before in
     let a = known .before .args in
     let b : Bytes (now (a .s)) = λ i. omega (arith, known .shared-slice-known .given i) in (
-      rw (c .before .before .before .byte-at .ensures .0, c .before .before .byte-at2 .ensures .0, c .before .byte-at3 .ensures .0, c .byte-at4 .ensures .0)
+      rw (
+        c .before .before .before .byte-at .ensures .0,
+        c .before .before .byte-at2 .ensures .0,
+        c .before .byte-at3 .ensures .0,
+        c .byte-at4 .ensures .0,
+      )
           (sym (field-window (now (a .s)) (a .q) b)),
       search needs,
     )

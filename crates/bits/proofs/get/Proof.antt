@@ -21,4 +21,5 @@ returns c =
 pub get-spec : {M : Type 1} → statement M
 get-spec =
     tie.close
-    (tie.spec (λ c κs. search needs) (λ c. search needs) (λ c. search needs) (λ c. search needs) (λ c. search needs) rem-result returns)
+    (tie.spec (λ c κs. search needs) (λ c. search needs) (λ c. search needs) (λ c. search needs)
+    (λ c. search needs) rem-result returns)

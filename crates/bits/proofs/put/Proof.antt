@@ -15,7 +15,8 @@ returns c =
     let start = cw .before .before .before in
     let a = start .args in
     rw (stored .set-window .ensures, cs .spliced .ensures .0, cw .window .ensures .0)
-    (sym (put-of-window (now (a .s)) (a .at) (a .width) (32 - a .at % 8 - a .width) (a .value) (omega (arith, start .pre .0)) (start .pre .1)))
+    (sym (put-of-window (now (a .s)) (a .at) (a .width) (32 - a .at % 8 - a .width) (a .value) (omega (arith, start .pre .0))
+    (start .pre .1)))
 
 pub put-spec : {M : Type 1} → statement M
 put-spec =

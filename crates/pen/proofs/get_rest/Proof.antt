@@ -1,8 +1,7 @@
-use Prim.Native.Nat.{_-_, _^_, _≤_}
+use Prim.Native.Nat.{_-_, _^_}
 use native.Mathlib.Nat.{lt-of-lt-of-le}
 use native.Mathlib.Omega.{arith}
 use borrow.Author.Needs.{needs}
-use denote.Ref.{now}
 use lib.Pow.{pow-mono}
 use Rattle.pen.proofs.Reading.{Read, read-none, read-one, read-near, read-all}
 use Rattle.pen.proofs.get_rest.Statement.{statement}

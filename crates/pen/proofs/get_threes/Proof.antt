@@ -1,5 +1,5 @@
 use mathlib.Core.Path.{_≡_}
-use Prim.Native.Nat.{ℕ, _*_, _-_, _%_, _^_, _≤_}
+use Prim.Native.Nat.{ℕ, _*_, _-_, _%_, _^_}
 use native.Mathlib.Nat.{lt-of-lt-of-le}
 use native.Mathlib.Omega.{arith}
 use borrow.Author.Needs.{needs}
@@ -32,7 +32,8 @@ width c = start c .args .width
 low : (c : tie.After-get Inv-loop μ-loop) → 1 * 2 ^ width c % 2 ^ 64 ≡ 2 ^ width c
 low c = one-shl (width c) (omega (arith, start c .pre .narrow))
 
-parts : (c : tie.After-get Inv-loop μ-loop) → Three (now (start c .args .s)) (c .before .before .loop .p) (width c) (c .get .result)
+parts : (c : tie.After-get Inv-loop μ-loop) →
+    Three (now (start c .args .s)) (c .before .before .loop .p) (width c) (c .get .result)
 parts c = three (now (start c .args .s)) (c .before .before .loop .p) (width c) (c .get .result) (c .get .ensures .0)
 
 -- each of the three is a byte
@@ -65,7 +66,8 @@ add-p c = record { fits = read-near 3 (2 ^ 64) (c .before .before .loop .inv) (c
 
 loop-again : tie.Need-loop-again Inv-loop μ-loop
 loop-again c =
-    rw (low c) (read-three (c .get .result) (c .before .before .loop .inv) (c .before .loop-test .taken) (start c .pre .room) (parts c))
+    rw (low c) (read-three (c .get .result) (c .before .before .loop .inv) (c .before .loop-test .taken) (start c .pre .room)
+    (parts c))
 
 returns : tie.Need-returns Inv-loop μ-loop
 returns c = (c .before .loop .inv .made, c .before .loop .inv .few)

@@ -1,6 +1,6 @@
-use mathlib.Core.Path.{_≡_, sym, subst, _∙_}
-use mathlib.Core.List.{List, [], _∷_, _++_}
-use Prim.Native.Nat.{ℕ, _+_, _*_, _-_, _^_, _≤_, _<_}
+use mathlib.Core.Path.{_≡_, _∙_}
+use mathlib.Core.List.{[], _∷_, _++_}
+use Prim.Native.Nat.{_+_, _-_, _^_, _≤_}
 use native.Mathlib.Nat.{le-antisymm}
 use native.Mathlib.Numerals.{add-one}
 use native.Mathlib.Omega.{arith}
@@ -47,8 +47,9 @@ loop-again c =
     let loop = in-loop .before .loop in
     let a = in-loop .before .before .before .before .before .before .args in
     let vs = now (a .values) in
-    let next : take (loop .i + 1) vs ≡ take (loop .i) vs ++ (getD vs (loop .i) 0 ∷ []) = rw (add-one (loop .i)) (take-suc vs (loop .i) 0 (in-loop .loop-test .taken)) in
-    (omega arith, rw (← replicate-append-replicate (loop .i) 1 (a .width), next) (drawn-behind (loop .inv .1) (pushed .push .ensures)))
+    let i = loop .i in
+    let next : take (i + 1) vs ≡ take i vs ++ (getD vs i 0 ∷ []) = rw (add-one i) (take-suc vs i 0 (in-loop .loop-test .taken)) in
+    (omega arith, rw (← replicate-append-replicate i 1 (a .width), next) (drawn-behind (loop .inv .1) (pushed .push .ensures)))
 
 same-length : tie.Need-same-length Inv-loop μ-loop
 same-length c = c .before .before .finish .kept .0 ∙ drawn-length (c .before .before .before .before .before .loop .inv .1)
