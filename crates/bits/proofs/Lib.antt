@@ -1,6 +1,3 @@
 pub mod Reading
 pub mod Writing
 pub mod Parts
-pub mod Runs
-pub mod Cover
-pub mod Pens

@@ -60,7 +60,12 @@ pub field-byte : (s : List ℕ) (q r w k : ℕ) → r + w + k ≡ 8 → field s 
 unfolding field
 field-byte s q r zero k e = omega arith
 field-byte s q r (suc w) k e =
-    rw (add-assoc (q * 8) r w, bit-byte s q (r + w) k (omega arith), field-byte s q r w (suc k) (omega arith), digit (getD s q 0) w k)
+    rw (
+      add-assoc (q * 8) r w,
+      bit-byte s q (r + w) k (omega arith),
+      field-byte s q r w (suc k) (omega arith),
+      digit (getD s q 0) w k,
+    )
 
 -- a byte as a whole
 pub field-whole : (s : List ℕ) (q : ℕ) → getD s q 0 < 256 → field s (q * 8) 8 ≡ getD s q 0
@@ -100,13 +105,22 @@ unfolding field
 field-one s k = rw (add-zero k) (omega arith)
 
 -- and the bits are equal where the fields are
-pub bits-of-field : (s t : List ℕ) (at w : ℕ) → field s at w ≡ field t at w → (j : ℕ) → j < w → bitAt s (at + j) ≡ bitAt t (at + j)
+pub bits-of-field : (s t : List ℕ) (at w : ℕ) → field s at w ≡ field t at w → (j : ℕ) → j < w →
+    bitAt s (at + j) ≡ bitAt t (at + j)
 bits-of-field s t at w e j l =
     let k : j + 1 + (w - (j + 1)) ≡ w = omega arith in
-    rw (← field-one s (at + j), ← field-one t (at + j), field-within s at j 1 (w - (j + 1)), field-within t at j 1 (w - (j + 1)), k, e)
+    rw (
+      ← field-one s (at + j),
+      ← field-one t (at + j),
+      field-within s at j 1 (w - (j + 1)),
+      field-within t at j 1 (w - (j + 1)),
+      k,
+      e,
+    )
 
 -- two lists of bytes of one length, with the same bits, are equal
-pub ext-bits : (s t : List ℕ) → Bytes s → Bytes t → length s ≡ length t → ((k : ℕ) → k < length s * 8 → bitAt s k ≡ bitAt t k) → s ≡ t
+pub ext-bits : (s t : List ℕ) → Bytes s → Bytes t → length s ≡ length t → ((k : ℕ) → k < length s * 8 → bitAt s k ≡ bitAt t k) →
+    s ≡ t
 ext-bits s t hs ht e h =
     ext-getD 0 s t e (λ i l.
     sym (field-whole s i (hs i)) ∙ field-cong s t (i * 8) 8 (λ j m. h (i * 8 + j) (omega arith)) ∙ field-whole t i (ht i))

@@ -3,7 +3,8 @@
 use mathlib.Core.Path.{_≡_, refl, sym, ap, _∙_}
 use mathlib.Core.List.{List}
 use Prim.Native.Nat.{ℕ, zero, suc, _+_, _*_, _-_, _/_, _%_, _^_, _≤_, _<_}
-use native.Mathlib.Nat.{zero-add, add-zero, add-suc, suc-add, add-comm, mul-one, mul-assoc, pow-suc, add-assoc, mod-lt, mod-eq-of-lt, div-one, mul-le-mul-left, div-lt-iff-lt-mul}
+use native.Mathlib.Nat.{zero-add, add-zero, add-suc, suc-add, add-comm, add-assoc, mul-one, mul-assoc, suc-mul, pow-suc}
+use native.Mathlib.Nat.{mod-lt, mod-eq-of-lt, div-one, mul-le-mul-left, mul-le-mul-right, div-lt-iff-lt-mul}
 use native.Mathlib.Numerals.{add-one, one-add}
 use native.Mathlib.Decide.{decLt, ℕ-discrete}
 use native.Mathlib.Omega.{arith}
@@ -90,14 +91,19 @@ put-byte s q r zero k v e h =
 put-byte s q r (suc w) k v e h =
     let v2 : v / 2 < 2 ^ w = omega (arith, pow-suc 2 w) in
     let v3 : v / 2 * 2 + v % 2 ≡ v = omega arith in
-    rw (put-byte s q r w (suc k) (v / 2) (omega arith) v2, add-assoc (q * 8) r w, put-bit-byte _ q (r + w) k (v % 2) (omega arith))
+    rw (
+      put-byte s q r w (suc k) (v / 2) (omega arith) v2,
+      add-assoc (q * 8) r w,
+      put-bit-byte _ q (r + w) k (v % 2) (omega arith),
+    )
     (set-over s q (splice w (suc k) (v / 2) (getD s q 0)) (splice 1 k (v % 2))
     ∙ ap (set s q) (splice-more w k (v / 2) (v % 2) (getD s q 0) ∙ ap (λ (n : ℕ). splice (suc w) k n (getD s q 0)) v3))
 
 -- a byte as a whole
 pub put-whole : (s : List ℕ) (q v : ℕ) → getD s q 0 < 256 → v < 256 → putField s (q * 8) 8 v ≡ set s q v
 put-whole s q v h l =
-    ap (λ (n : ℕ). putField s n 8 v) (sym (add-zero (q * 8))) ∙ put-byte s q 0 8 0 v refl l ∙ ap (set s q) (splice-whole v (getD s q 0) h)
+    ap (λ (n : ℕ). putField s n 8 v) (sym (add-zero (q * 8))) ∙ put-byte s q 0 8 0 v refl l
+    ∙ ap (set s q) (splice-whole v (getD s q 0) h)
 
 -- ---- lengths
 
@@ -112,7 +118,8 @@ length-put s at (suc w) v = length-put-bit (putField s at w (v / 2)) (at + w) (v
 
 -- ---- a field is its first i bits and the w after them
 
-pub put-split : (s : List ℕ) (at i w v : ℕ) → putField s at (i + w) v ≡ putField (putField s at i (v / 2 ^ w)) (at + i) w (v % 2 ^ w)
+pub put-split : (s : List ℕ) (at i w v : ℕ) →
+    putField s at (i + w) v ≡ putField (putField s at i (v / 2 ^ w)) (at + i) w (v % 2 ^ w)
 unfolding putField
 put-split s at i zero v = rw (add-zero i, div-one v)
 put-split s at i (suc w) v =
@@ -122,12 +129,20 @@ put-split s at i (suc w) v =
     rw (add-suc i w, put-split s at i w (v / 2), add-assoc at i w, a, b, ← c)
 
 -- two neighbouring fields as one
-pub put-two : (s : List ℕ) (at a b x y : ℕ) → y < 2 ^ b → putField s at (a + b) (x * 2 ^ b + y) ≡ putField (putField s at a x) (at + a) b y
+pub put-two : (s : List ℕ) (at a b x y : ℕ) → y < 2 ^ b →
+    putField s at (a + b) (x * 2 ^ b + y) ≡ putField (putField s at a x) (at + a) b y
 put-two s at a b x y h = rw (put-split s at a b (x * 2 ^ b + y), high x b h, low x b h)
+
+-- and it fits
+pub append-lt : (a b x y : ℕ) → x < 2 ^ a → y < 2 ^ b → x * 2 ^ b + y < 2 ^ (a + b)
+append-lt a b x y h l =
+    let k : suc x * 2 ^ b ≤ 2 ^ a * 2 ^ b = mul-le-mul-right (2 ^ b) h in
+    rw (pow-add 2 a b) (omega (arith, suc-mul x (2 ^ b)))
 
 -- three neighbouring fields as one
 pub put-three : (s : List ℕ) (at a b c x y z : ℕ) → x < 2 ^ a → y < 2 ^ b → z < 2 ^ c →
-    putField s at (a + b + c) ((x * 2 ^ b + y) * 2 ^ c + z) ≡ putField (putField (putField s at a x) (at + a) b y) (at + a + b) c z
+    putField s at (a + b + c) ((x * 2 ^ b + y) * 2 ^ c + z)
+    ≡ putField (putField (putField s at a x) (at + a) b y) (at + a + b) c z
 put-three s at a b c x y z _ hy hz =
     rw (put-two s at (a + b) c (x * 2 ^ b + y) z hz, put-two s at a b x y hy, add-assoc at a b)
 
@@ -158,7 +173,8 @@ bit-num-other a b c x n h = go (decLt a b)
 
 pub bit-put-same : (s : List ℕ) (k c : ℕ) → k < length s * 8 → c < 2 → bitAt (putBit s k c) k ≡ c
 unfolding bitAt putBit
-bit-put-same s k c l h = rw (getD-set-same s (k / 8) (splice 1 (7 - k % 8) c (getD s (k / 8) 0)) 0 (omega arith)) (splice-mid 1 (7 - k % 8) c _ h)
+bit-put-same s k c l h =
+    rw (getD-set-same s (k / 8) (splice 1 (7 - k % 8) c (getD s (k / 8) 0)) 0 (omega arith)) (splice-mid 1 (7 - k % 8) c _ h)
 
 pub bit-put-other : (s : List ℕ) (k j c : ℕ) → (j ≡ k → ⊥) → c < 2 → bitAt (putBit s k c) j ≡ bitAt s j
 unfolding bitAt putBit
@@ -167,7 +183,8 @@ bit-put-other s k j c n h = go (ℕ-discrete (j / 8) (k / 8)) (decLt (k / 8) (le
     v : ℕ
     v = splice 1 (7 - k % 8) c (getD s (k / 8) 0)
 
-    go : Dec (j / 8 ≡ k / 8) → Dec (k / 8 < length s) → getD (set s (k / 8) v) (j / 8) 0 / 2 ^ (7 - j % 8) % 2 ≡ getD s (j / 8) 0 / 2 ^ (7 - j % 8) % 2
+    go : Dec (j / 8 ≡ k / 8) → Dec (k / 8 < length s) →
+        getD (set s (k / 8) v) (j / 8) 0 / 2 ^ (7 - j % 8) % 2 ≡ getD s (j / 8) 0 / 2 ^ (7 - j % 8) % 2
     go (no m) d = rw (getD-set-other s (k / 8) (j / 8) v 0 m)
     go (yes e) (no m) = rw (set-out s (k / 8) v (omega arith))
     go (yes e) (yes l) = rw (e, getD-set-same s (k / 8) v 0 l) (bit-num-other (7 - k % 8) (7 - j % 8) c _ (omega arith) h)
@@ -182,7 +199,8 @@ put-before s at (suc w) v j h = bit-put-other _ (at + w) j (v % 2) (omega arith)
 pub put-after : (s : List ℕ) (at w v j : ℕ) → at + w ≤ j → bitAt (putField s at w v) j ≡ bitAt s j
 unfolding putField
 put-after s at zero v j h = refl
-put-after s at (suc w) v j h = bit-put-other _ (at + w) j (v % 2) (omega arith) (omega arith) ∙ put-after s at w (v / 2) j (omega arith)
+put-after s at (suc w) v j h = bit-put-other _ (at + w) j (v % 2) (omega arith) (omega arith)
+    ∙ put-after s at w (v / 2) j (omega arith)
 
 -- a field before, and one after, the written one
 pub get-before : (s : List ℕ) (at w v b u : ℕ) → b + u ≤ at → field (putField s at w v) b u ≡ field s b u
@@ -354,14 +372,17 @@ put-put s at w v u h r l =
     let n : length t ≡ length s = length-put s at w v in
     let n1 : length (putField t at w u) ≡ length t = length-put t at w u in
     let n2 : length (putField s at w u) ≡ length s = length-put s at w u in
-    ext-bits (putField t at w u) (putField s at w u) (bytes-put t at w u (bytes-put s at w v h)) (bytes-put s at w u h) (omega arith)
+    ext-bits (putField t at w u) (putField s at w u) (bytes-put t at w u (bytes-put s at w v h)) (bytes-put s at w u h)
+    (omega arith)
     (λ k _. go k (decLt k at) (decLt k (at + w)))
   where
     go : (k : ℕ) → Dec (k < at) → Dec (k < at + w) →
         bitAt (putField (putField s at w v) at w u) k ≡ bitAt (putField s at w u) k
     go k (yes a) d = put-before _ at w u k a ∙ put-before s at w v k a ∙ sym (put-before s at w u k a)
-    go k (no a) (yes b) = bits-put (putField s at w v) s at w u (omega (arith, length-put s at w v)) (length-put s at w v) l k (omega arith) b
-    go k (no a) (no b) = put-after _ at w u k (omega arith) ∙ put-after s at w v k (omega arith) ∙ sym (put-after s at w u k (omega arith))
+    go k (no a) (yes b) = bits-put (putField s at w v) s at w u (omega (arith, length-put s at w v)) (length-put s at w v) l k
+        (omega arith) b
+    go k (no a) (no b) = put-after _ at w u k (omega arith) ∙ put-after s at w v k (omega arith)
+        ∙ sym (put-after s at w u k (omega arith))
 
 -- two fields, the first before the second, in either order
 pub put-comm : (s : List ℕ) (at w v b u x : ℕ) → Bytes s → at + w ≤ b → b + u ≤ length s * 8 → v < 2 ^ w → x < 2 ^ u →
@@ -373,20 +394,24 @@ put-comm s at w v b u x h o r l m =
     let n2 : length s2 ≡ length s = length-put s b u x in
     let n3 : length (putField s1 b u x) ≡ length s1 = length-put s1 b u x in
     let n4 : length (putField s2 at w v) ≡ length s2 = length-put s2 at w v in
-    ext-bits (putField s1 b u x) (putField s2 at w v) (bytes-put s1 b u x (bytes-put s at w v h)) (bytes-put s2 at w v (bytes-put s b u x h)) (omega arith)
+    ext-bits (putField s1 b u x) (putField s2 at w v) (bytes-put s1 b u x (bytes-put s at w v h))
+    (bytes-put s2 at w v (bytes-put s b u x h)) (omega arith)
     (λ k _. go k (decLt k at) (decLt k (at + w)) (decLt k b) (decLt k (b + u)))
   where
     go : (k : ℕ) → Dec (k < at) → Dec (k < at + w) → Dec (k < b) → Dec (k < b + u) →
         bitAt (putField (putField s at w v) b u x) k ≡ bitAt (putField (putField s b u x) at w v) k
     go k (yes i) _ _ _ =
-        put-before _ b u x k (omega arith) ∙ put-before s at w v k i ∙ sym (put-before _ at w v k i ∙ put-before s b u x k (omega arith))
+        put-before _ b u x k (omega arith) ∙ put-before s at w v k i
+        ∙ sym (put-before _ at w v k i ∙ put-before s b u x k (omega arith))
     go k (no i) (yes j) _ _ =
         put-before _ b u x k (omega arith)
         ∙ bits-put s (putField s b u x) at w v (omega arith) (sym (length-put s b u x)) l k (omega arith) j
     go k (no i) (no j) (yes c) _ =
-        put-before _ b u x k c ∙ put-after s at w v k (omega arith) ∙ sym (put-after _ at w v k (omega arith) ∙ put-before s b u x k c)
+        put-before _ b u x k c ∙ put-after s at w v k (omega arith)
+        ∙ sym (put-after _ at w v k (omega arith) ∙ put-before s b u x k c)
     go k (no i) (no j) (no c) (yes d) =
         bits-put (putField s at w v) s b u x (omega (arith, length-put s at w v)) (length-put s at w v) m k (omega arith) d
         ∙ sym (put-after _ at w v k (omega arith))
     go k (no i) (no j) (no c) (no d) =
-        put-after _ b u x k (omega arith) ∙ put-after s at w v k (omega arith) ∙ sym (put-after _ at w v k (omega arith) ∙ put-after s b u x k (omega arith))
+        put-after _ b u x k (omega arith) ∙ put-after s at w v k (omega arith)
+        ∙ sym (put-after _ at w v k (omega arith) ∙ put-after s b u x k (omega arith))

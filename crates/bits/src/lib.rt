@@ -1,11 +1,8 @@
-// Fields of bits in a slice of bytes, most significant bit first.
-pub mod pen; // fields written one behind another
-
+// One field of bits in a slice of bytes, most significant bit first.
 ghost use mathlib.Core.Path.{_≡_};
-ghost use Prim.Native.Nat.{ℕ, _+_, _*_, _%_, _^_, _≤_, _<_};
-ghost use lib.ListN.{length, getD, set, drop, replicate};
-ghost use mathlib.Core.List.{List, _++_};
-ghost use Rattle.bits.specs.Bits.{field, putField, splice, fields, putFields};
+ghost use Prim.Native.Nat.{_+_, _*_, _%_, _^_, _≤_, _<_};
+ghost use lib.ListN.{getD, set};
+ghost use Rattle.bits.specs.Bits.{field, putField, splice};
 
 // The byte as a wider number.
 fn wide(x: u8) -> u64
@@ -84,7 +81,7 @@ fn set_end(s: &mut [u8], q: usize, y: u64)
 }
 
 // The same; where all four places are inside the compiler can make one store of them.
-fn set_window(s: &mut [u8], q: usize, y: u64)
+pub fn set_window(s: &mut [u8], q: usize, y: u64)
     requires { ⌜ (q < 2 ^ 62) × (y < 2 ^ 32) ⌝ }
     ensures { λ _. ⌜ now (s .exit) ≡ putField (now (s .entry)) (q * 8) 32 y ⌝ }
 {
@@ -107,63 +104,4 @@ pub fn put(s: &mut [u8], at: usize, width: usize, value: u64)
     let x = window(s, q);
     let y = spliced(x, width, 32 - at % 8 - width, value);
     set_window(s, q, y);
-}
-
-// Reads n fields of `width` bits each, one after another from bit `at` on, into the first n entries of out; the rest stays.
-pub fn get_run(s: &[u8], at: usize, width: usize, n: usize, out: &mut [u8])
-    requires { ⌜ (width ≤ 8) × (n ≤ length (now out)) × (at + n * width < 2 ^ 64) ⌝ }
-    ensures { λ _. ⌜ now (out .exit) ≡ fields (now (s .entry)) at (replicate n width) ++ drop n (now (out .entry)) ⌝ }
-{
-    let done = get_threes(s, at, width, n, out);
-    get_rest(s, at, width, done, n, out);
-}
-
-// The same for as many of them as make threes, and how many these are: three fields are read as one.
-fn get_threes(s: &[u8], at: usize, width: usize, n: usize, out: &mut [u8]) -> usize
-    requires { ⌜ (width ≤ 8) × (n ≤ length (now out)) × (at + n * width < 2 ^ 64) ⌝ }
-    ensures fields { λ r. ⌜ now (out .exit) ≡ fields (now (s .entry)) at (replicate r width) ++ drop r (now (out .entry)) ⌝ }
-    ensures count { λ r. ⌜ r ≤ n ⌝ }
-    ensures length { λ r. ⌜ length (now (out .exit)) ≡ length (now (out .entry)) ⌝ }
-{
-    let low = 1u64 << width;
-    let mut i = 0;
-    let mut p = at;
-    while i + 3 <= n {
-        let three = get(s, p, 3 * width);
-        let two = three >> width;
-        out[i] = (two >> width) as u8;
-        out[i + 1] = (two % low) as u8;
-        out[i + 2] = (three % low) as u8;
-        p += 3 * width;
-        i += 3;
-    }
-    i
-}
-
-// Reads those from number `from` on, one by one behind those that are there.
-fn get_rest(s: &[u8], at: usize, width: usize, from: usize, n: usize, out: &mut [u8])
-    requires { ⌜ (width ≤ 8) × (n ≤ length (now out)) × (at + n * width < 2 ^ 64) × (from ≤ n) ⌝ }
-    ensures { λ _. ⌜ ((xs : List ℕ) → length xs ≡ length (now (out .entry)) → now (out .entry) ≡ fields (now (s .entry)) at (replicate from width) ++ drop from xs → now (out .exit) ≡ fields (now (s .entry)) at (replicate n width) ++ drop n xs) ⌝ }
-{
-    let mut i = from;
-    let mut p = at + from * width;
-    while i < n {
-        out[i] = get(s, p, width) as u8;
-        p += width;
-        i += 1;
-    }
-}
-
-// Writes the values one after another as fields of `width` bits from bit `at` on; all other bits stay.
-pub fn put_run(s: &mut [u8], at: usize, width: usize, values: &[u8])
-    requires { ⌜ (width ≤ 8) × (at + length (now values) * width < 2 ^ 64) × ((i : ℕ) → getD (now values) i 0 < 2 ^ width) ⌝ }
-    ensures { λ _. ⌜ now (s .exit) ≡ putFields (now (s .entry)) at (replicate (length (now (values .entry))) width) (now (values .entry)) ⌝ }
-{
-    let mut pen = pen::begin(s, at);
-    let mut i = 0;
-    while i < values.len() {
-        pen = pen::push(s, pen, width, wide(values[i]));
-        i += 1;
-    }
-    pen::finish(s, pen);
 }

@@ -5,20 +5,8 @@ use borrow.Author.Needs.{needs}
 use Rattle.bits.proofs.set_byte.Statement.{statement}
 use Rattle.bits.proofs.set_byte.Tie as tie
 
-cast-s : tie.Need-cast-s
-cast-s c = search needs
-
-slice-write-s : tie.Need-slice-write-s
-slice-write-s c = search needs
-
-same-length : tie.Need-same-length
-same-length c = search needs
-
-returns : tie.Need-returns
-returns c = search needs
-
 returns-2 : tie.Need-returns-2
 returns-2 c = sym (set-out (now (c .before .args .s)) (c .before .args .i) (c .before .args .b) (c .if1 .left))
 
 pub set-byte-spec : {M : Type 1} → statement M
-set-byte-spec = tie.close (tie.spec cast-s slice-write-s same-length returns returns-2)
+set-byte-spec = tie.close (tie.spec (λ c. search needs) (λ c. search needs) (λ c. search needs) (λ c. search needs) returns-2)

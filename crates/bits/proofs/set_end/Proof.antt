@@ -7,30 +7,6 @@ use borrow.Author.Needs.{needs}
 use Rattle.bits.proofs.set_end.Statement.{statement}
 use Rattle.bits.proofs.set_end.Tie as tie
 
-set-byte-requires : tie.Need-set-byte-requires
-set-byte-requires c κs = search needs
-
-add-set-byte : tie.Need-add-set-byte
-add-set-byte c = search needs
-
-set-byte-requires-2 : tie.Need-set-byte-requires-2
-set-byte-requires-2 c κs = search needs
-
-add-set-byte-2 : tie.Need-add-set-byte-2
-add-set-byte-2 c = search needs
-
-set-byte-requires-3 : tie.Need-set-byte-requires-3
-set-byte-requires-3 c κs = search needs
-
-add-set-byte-3 : tie.Need-add-set-byte-3
-add-set-byte-3 c = search needs
-
-set-byte-requires-4 : tie.Need-set-byte-requires-4
-set-byte-requires-4 c κs = search needs
-
-same-length : tie.Need-same-length
-same-length c = search needs
-
 returns : tie.Need-returns
 returns c =
     let c4 = c .before .before in
@@ -48,12 +24,12 @@ pub set-end-spec : {M : Type 1} → statement M
 set-end-spec =
     tie.close
     (tie.spec
-    set-byte-requires
-    add-set-byte
-    set-byte-requires-2
-    add-set-byte-2
-    set-byte-requires-3
-    add-set-byte-3
-    set-byte-requires-4
-    same-length
+    (λ c κs. search needs)
+    (λ c. search needs)
+    (λ c κs. search needs)
+    (λ c. search needs)
+    (λ c κs. search needs)
+    (λ c. search needs)
+    (λ c κs. search needs)
+    (λ c. search needs)
     returns)

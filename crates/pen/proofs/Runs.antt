@@ -1,18 +1,16 @@
 -- Laws of runs of fields: reading and writing undo each other.
 -- Assumes nothing.
 use mathlib.Core.Path.{_≡_, refl, sym, ap, _∙_}
-use mathlib.Core.List.{List, [], _∷_, _++_, append-assoc}
-use Prim.Native.Nat.{ℕ, zero, suc, _+_, _*_, _-_, _/_, _%_, _^_, _≤_, _<_}
-use native.Mathlib.Nat.{zero-add, add-zero, suc-mul, zero-mul, add-mul, one-mul, add-assoc, mul-le-mul-right}
+use mathlib.Core.List.{List, [], _∷_, _++_}
+use Prim.Native.Nat.{ℕ, zero, suc, _+_, _*_, _-_, _^_, _≤_, _<_}
+use native.Mathlib.Nat.{zero-add, add-zero, suc-mul, zero-mul, add-mul, add-assoc, mul-le-mul-right}
 use native.Mathlib.Decide.{decLt}
 use native.Mathlib.Omega.{arith}
-use native.Mathlib.Numerals.{add-one}
-use lib.ListN.{length, getD, set, take, drop, replicate, length-replicate, replicate-append-replicate}
-use lib.Pow.{high, low}
-use lib.Seq.{take-suc, length-take-le, drop-cons, set-at}
-use Rattle.bits.specs.Bits.{Bytes, bitAt, field, putField, total, fields, putFields, Fit}
-use Rattle.bits.proofs.Reading.{field-lt, field-split, field-cong, bits-of-field, ext-bits}
+use lib.ListN.{length, getD, replicate, replicate-append-replicate}
+use Rattle.bits.specs.Bits.{Bytes, bitAt, field, putField}
+use Rattle.bits.proofs.Reading.{field-lt, field-cong, bits-of-field, ext-bits}
 use Rattle.bits.proofs.Writing.{length-put, bytes-put, get-put, put-before, put-after}
+use Rattle.pen.specs.Runs.{total, fields, putFields, Fit}
 
 -- ---- widths, and values that fit them
 
@@ -49,10 +47,12 @@ fit-run (suc n) w (v ∷ vs) e h = (h 0, fit-run n w vs (omega arith) (λ i. h (
 
 -- ---- reading
 
-pub fields-append : (s : List ℕ) (at : ℕ) (us ws : List ℕ) → fields s at (us ++ ws) ≡ fields s at us ++ fields s (at + total us) ws
+pub fields-append : (s : List ℕ) (at : ℕ) (us ws : List ℕ) →
+    fields s at (us ++ ws) ≡ fields s at us ++ fields s (at + total us) ws
 unfolding fields total
 fields-append s at [] ws = rw (add-zero at)
-fields-append s at (u ∷ us) ws = ap {B = List ℕ} (λ r. field s at u ∷ r) (fields-append s (at + u) us ws ∙ rw (add-assoc at u (total us)))
+fields-append s at (u ∷ us) ws =
+    ap {B = List ℕ} (λ r. field s at u ∷ r) (fields-append s (at + u) us ws ∙ rw (add-assoc at u (total us)))
 
 pub length-fields : (s : List ℕ) (at : ℕ) (ws : List ℕ) → length (fields s at ws) ≡ length ws
 unfolding fields
@@ -85,7 +85,8 @@ unfolding putFields total
 puts-append s at [] ws [] xs e = rw (add-zero at)
 puts-append s at [] ws (v ∷ vs) xs e = absurd (omega arith)
 puts-append s at (u ∷ us) ws [] xs e = absurd (omega arith)
-puts-append s at (u ∷ us) ws (v ∷ vs) xs e = puts-append (putField s at u v) (at + u) us ws vs xs (omega arith) ∙ rw (add-assoc at u (total us))
+puts-append s at (u ∷ us) ws (v ∷ vs) xs e = puts-append (putField s at u v) (at + u) us ws vs xs (omega arith)
+    ∙ rw (add-assoc at u (total us))
 
 -- ---- frame: all other bits are as they were
 
@@ -99,12 +100,14 @@ pub puts-after : (s : List ℕ) (at : ℕ) (ws vs : List ℕ) (j : ℕ) → at +
 unfolding putFields total
 puts-after s at [] vs j h = refl
 puts-after s at (w ∷ ws) [] j h = refl
-puts-after s at (w ∷ ws) (v ∷ vs) j h = puts-after (putField s at w v) (at + w) ws vs j (omega arith) ∙ put-after s at w v j (omega arith)
+puts-after s at (w ∷ ws) (v ∷ vs) j h = puts-after (putField s at w v) (at + w) ws vs j (omega arith)
+    ∙ put-after s at w v j (omega arith)
 
 -- ---- reading and writing undo each other
 
 -- what was written is read
-pub read-written : (s : List ℕ) (at : ℕ) (ws vs : List ℕ) → at + total ws ≤ length s * 8 → Fit ws vs → fields (putFields s at ws vs) at ws ≡ vs
+pub read-written : (s : List ℕ) (at : ℕ) (ws vs : List ℕ) → at + total ws ≤ length s * 8 → Fit ws vs →
+    fields (putFields s at ws vs) at ws ≡ vs
 unfolding putFields fields total Fit
 read-written s at [] [] h f = refl
 read-written s at [] (v ∷ vs) h f = absurd f
@@ -152,7 +155,8 @@ write-read s t ws hs ht e c =
 
 -- ---- runs of one width, one field more
 
-pub run-more : (s : List ℕ) (at w n : ℕ) → fields s at (replicate (n + 1) w) ≡ fields s at (replicate n w) ++ (field s (at + n * w) w ∷ [])
+pub run-more : (s : List ℕ) (at w n : ℕ) →
+    fields s at (replicate (n + 1) w) ≡ fields s at (replicate n w) ++ (field s (at + n * w) w ∷ [])
 unfolding fields
 run-more s at w n =
     rw (← replicate-append-replicate n 1 w, fields-append s at (replicate n w) (replicate 1 w), total-replicate n w)
@@ -166,73 +170,9 @@ run-at s at w (suc n) (suc i) h =
     let e : at + w + i * w ≡ at + suc i * w = omega (arith, suc-mul i w) in
     run-at s (at + w) w n i (omega arith) ∙ ap (λ (k : ℕ). field s k w) e
 
-pub puts-more : (s : List ℕ) (at w n : ℕ) (vs : List ℕ) → n < length vs →
-    putFields s at (replicate (n + 1) w) (take (n + 1) vs)
-    ≡ putField (putFields s at (replicate n w) (take n vs)) (at + n * w) w (getD vs n 0)
-unfolding putFields
-puts-more s at w n vs h =
-    rw (
-      ← replicate-append-replicate n 1 w,
-      add-one n,
-      take-suc vs n 0 h,
-      puts-append s at (replicate n w) (replicate 1 w) (take n vs) (getD vs n 0 ∷ []) (length-replicate n w ∙ sym (length-take-le n vs (omega arith))),
-      total-replicate n w,
-    )
-
--- a store behind a part that is made
-pub store-more : (xs d : List ℕ) (n v : ℕ) → length xs ≡ n → n < length d → set (xs ++ drop n d) n v ≡ (xs ++ (v ∷ [])) ++ drop (n + 1) d
-store-more xs d n v e h =
-    rw (drop-cons d n 0 h, set-at xs (getD d n 0) (drop (suc n) d) v n e, add-one n) (sym (append-assoc xs (v ∷ []) (drop (suc n) d)))
-
 -- k fields more end before the run does
 pub room-more : (at w i k n m : ℕ) → i + k ≤ n → at + n * w < m → at + i * w + k * w < m
 room-more at w i k n m h l =
     let e : (i + k) * w ≡ i * w + k * w = add-mul i k w in
     let le = mul-le-mul-right w h in
     omega (arith, e, le)
-
--- the place of the next field, and that it does not wrap
-pub room : (at w i n m : ℕ) → i < n → at + n * w < m → at + i * w + w < m
-room at w i n m h l = omega (arith, room-more at w i 1 n m (omega arith) l, one-mul w)
-
-pub step : (at w i : ℕ) → at + i * w + w ≡ at + (i + 1) * w
-step at w i = rw (add-one i) (omega (arith, suc-mul i w))
-
--- one field more is stored behind those that are there
-pub run-store : (s d out : List ℕ) (at w i v : ℕ) → out ≡ fields s at (replicate i w) ++ drop i d → i < length d → v ≡ field s (at + i * w) w →
-    set out i v ≡ fields s at (replicate (i + 1) w) ++ drop (i + 1) d
-run-store s d out at w i v h l e =
-    let xs = fields s at (replicate i w) in
-    let n : length xs ≡ i = length-fields s at (replicate i w) ∙ length-replicate i w in
-    ap (λ (k : List ℕ). set k i v) h ∙ store-more xs d i v n l ∙ rw (e, run-more s at w i)
-
--- and three
-pub run-three : (s d out : List ℕ) (at w i a b c : ℕ) → out ≡ fields s at (replicate i w) ++ drop i d → i + 3 ≤ length d →
-    a ≡ field s (at + i * w) w → b ≡ field s (at + i * w + w) w → c ≡ field s (at + i * w + w + w) w →
-    set (set (set out i a) (i + 1) b) (i + 2) c ≡ fields s at (replicate (i + 3) w) ++ drop (i + 3) d
-run-three s d out at w i a b c h l ea eb ec =
-    let two : i + 2 ≡ i + 1 + 1 = omega arith in
-    let three : i + 3 ≡ i + 1 + 1 + 1 = omega arith in
-    let next = step at w i in
-    rw (two, three)
-    (run-store s d _ at w (i + 1 + 1) c
-    (run-store s d _ at w (i + 1) b (run-store s d out at w i a h (omega arith) ea) (omega arith) (eb ∙ ap (λ (p : ℕ). field s p w) next))
-    (omega arith) (ec ∙ ap (λ (p : ℕ). field s p w) (ap (λ (p : ℕ). p + w) next ∙ step at w (i + 1))))
-
--- three fields of one width that are read as one
-pub record Three (s : List ℕ) (at w v : ℕ) : Type 0 where
-  pub first : v / 2 ^ w / 2 ^ w ≡ field s at w
-  pub second : v / 2 ^ w % 2 ^ w ≡ field s (at + w) w
-  pub third : v % 2 ^ w ≡ field s (at + w + w) w
-
-pub three : (s : List ℕ) (at w v : ℕ) → v ≡ field s at (3 * w) → Three s at w v
-three s at w v h =
-    let e : 3 * w ≡ w + w + w = omega arith in
-    let place : at + (w + w) ≡ at + w + w = omega arith in
-    let all : v ≡ field s at (w + w) * 2 ^ w + field s (at + w + w) w = h ∙ ap (field s at) e ∙ field-split s at (w + w) w ∙ rw place in
-    let both = field-split s at w w in
-    rw all record {
-      first = rw (high (field s at (w + w)) w (field-lt s (at + w + w) w), both) (high (field s at w) w (field-lt s (at + w) w));
-      second = rw (high (field s at (w + w)) w (field-lt s (at + w + w) w), both) (low (field s at w) w (field-lt s (at + w) w));
-      third = low (field s at (w + w)) w (field-lt s (at + w + w) w);
-    }

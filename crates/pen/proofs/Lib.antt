@@ -1,0 +1,4 @@
+pub mod Runs
+pub mod Parts
+pub mod Reading
+pub mod Pens
