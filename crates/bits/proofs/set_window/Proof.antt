@@ -8,15 +8,6 @@ use borrow.Author.Needs.{needs}
 use Rattle.bits.proofs.set_window.Statement.{statement}
 use Rattle.bits.proofs.set_window.Tie as tie
 
-slice-write-s-2 : tie.Need-slice-write-s-2
-slice-write-s-2 c = simp length-set (omega arith)
-
-slice-write-s-3 : tie.Need-slice-write-s-3
-slice-write-s-3 c = simp length-set (omega arith)
-
-slice-write-s-4 : tie.Need-slice-write-s-4
-slice-write-s-4 c = simp length-set (omega arith)
-
 returns : tie.Need-returns
 returns c =
     let known = c .before in
@@ -34,13 +25,13 @@ set-window-spec =
     (λ c. search needs)
     (λ c. search needs)
     (λ c. search needs)
-    slice-write-s-2
+    (λ c. simp length-set (omega arith))
     (λ c. search needs)
     (λ c. search needs)
-    slice-write-s-3
+    (λ c. simp length-set (omega arith))
     (λ c. search needs)
     (λ c. search needs)
-    slice-write-s-4
+    (λ c. simp length-set (omega arith))
     (λ c κs. search needs)
     (λ c. search needs)
     returns

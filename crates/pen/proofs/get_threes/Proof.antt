@@ -1,6 +1,6 @@
 use mathlib.Core.Path.{_≡_}
-use Prim.Native.Nat.{ℕ, _*_, _-_, _%_, _^_}
-use native.Mathlib.Nat.{lt-of-lt-of-le}
+use Prim.Native.Nat.{ℕ, _*_, _-_, _%_, _^_, _<_}
+use native.Mathlib.Nat.{lt-of-lt-of-le, mod-lt}
 use native.Mathlib.Omega.{arith}
 use borrow.Author.Needs.{needs}
 use denote.Ref.{now}
@@ -8,7 +8,6 @@ use lib.ListN.{length-set}
 use lib.Pow.{pow-mono, pow-pos}
 use mir.Syntax.{w8}
 use mir.Val.{Fits}
-use Rattle.bits.specs.Bits.{field}
 use Rattle.bits.proofs.Reading.{field-lt, one-shl}
 use Rattle.pen.proofs.Reading.{Read, read-none, read-near, Three, three, read-three}
 use Rattle.pen.proofs.get_threes.Statement.{statement}
@@ -36,30 +35,12 @@ parts : (c : tie.After-get Inv-loop μ-loop) →
     Three (now (start c .args .s)) (c .before .before .loop .p) (width c) (c .get .result)
 parts c = three (now (start c .args .s)) (c .before .before .loop .p) (width c) (c .get .result) (c .get .ensures .0)
 
--- each of the three is a byte
-small : (c : tie.After-get Inv-loop μ-loop) (at : ℕ) → Fits w8 (field (now (start c .args .s)) at (width c))
-small c at = record { fits = lt-of-lt-of-le (field-lt (now (start c .args .s)) at (width c)) (pow-mono (start c .pre .narrow)) }
+-- what fits the width is a byte
+byte : (c : tie.After-get Inv-loop μ-loop) (v : ℕ) → v < 2 ^ width c → Fits w8 v
+byte c v h = record { fits = lt-of-lt-of-le h (pow-mono (start c .pre .narrow)) }
 
 cast-out : tie.Need-cast-out Inv-loop μ-loop
-cast-out c = rw (parts c .first) (small c _)
-
-rem-out : tie.Need-rem-out Inv-loop μ-loop
-rem-out c = rw (low c) (pow-pos (width c))
-
-cast-out-2 : tie.Need-cast-out-2 Inv-loop μ-loop
-cast-out-2 c = rw (low c, parts c .second) (small c _)
-
-slice-write-out-2 : tie.Need-slice-write-out-2 Inv-loop μ-loop
-slice-write-out-2 c = simp length-set (omega arith)
-
-rem-out-2 : tie.Need-rem-out-2 Inv-loop μ-loop
-rem-out-2 c = rw (low c) (pow-pos (width c))
-
-cast-out-3 : tie.Need-cast-out-3 Inv-loop μ-loop
-cast-out-3 c = rw (low c, parts c .third) (small c _)
-
-slice-write-out-3 : tie.Need-slice-write-out-3 Inv-loop μ-loop
-slice-write-out-3 c = simp length-set (omega arith)
+cast-out c = rw (parts c .first) (byte c _ (field-lt _ _ _))
 
 add-p : tie.Need-add-p Inv-loop μ-loop
 add-p c = record { fits = read-near 3 (2 ^ 64) (c .before .before .loop .inv) (c .before .loop-test .taken) (start c .pre .near) }
@@ -87,14 +68,14 @@ get-threes-spec =
     (λ c. search needs)
     cast-out
     (λ c. search needs)
-    rem-out
-    cast-out-2
+    (λ c. rw (low c) (pow-pos (width c)))
+    (λ c. rw (low c) (byte c _ (mod-lt _ (pow-pos (width c)))))
     (λ c. search needs)
-    slice-write-out-2
-    rem-out-2
-    cast-out-3
+    (λ c. simp length-set (omega arith))
+    (λ c. rw (low c) (pow-pos (width c)))
+    (λ c. rw (low c) (byte c _ (mod-lt _ (pow-pos (width c)))))
     (λ c. search needs)
-    slice-write-out-3
+    (λ c. simp length-set (omega arith))
     (λ c. search needs)
     add-p
     (λ c. search needs)
