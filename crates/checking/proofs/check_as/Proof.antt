@@ -1,0 +1,102 @@
+-- `checking::check_as` meets its contract: a refusal before the edges is the answer, and otherwise the first fault of the edges
+-- decides. The invariant: no edge before the cursor has a fault. Assumes nothing.
+use mathlib.Core.Path.{_≡_, refl, ap, sym, _∙_}
+use mathlib.Core.List.{List}
+use Prim.Native.Nat.{ℕ, _-_, _≤_, _<_}
+use native.Mathlib.Omega.{arith}
+use borrow.Author.Needs.{needs}
+use denote.Ref.{now}
+use Rattle.layout.specs.Layout.{edgesBegin}
+use Rattle.layout.proofs.Bounds.{states-high, count-high, begin-high}
+use Rattle.edges.specs.Walk.{Walked}
+use Rattle.edges.proofs.Walks.{walk-begun, walk-near, walk-next, walk-faulty, walk-done}
+use Rattle.files.specs.Tests.{HeadIs, head-is, head-refused, check-faultless, check-faulty}
+use Rattle.checking.specs.Promise.{checkedOutcome}
+use Rattle.checking.proofs.check_as.Statement.{statement}
+use Rattle.checking.proofs.check_as.Tie as tie
+
+abbrev Inv-loop : tie.InvT-loop
+Inv-loop p file r n m e cursor₀ cursor = Walked p file (edgesBegin p n) e n m cursor
+
+abbrev μ-loop : tie.MeasureT-loop
+μ-loop p file r n m e cursor₀ cursor = e - cursor .index
+
+-- ---- what is known where the edges begin
+
+is-headed : (c : tie.After-known-told Inv-loop μ-loop) → HeadIs (c .before .before .before .before .args .p) (now (c .before .before .before .before .args .file)) (c .before .answer .given .0 .0)
+is-headed c =
+    let start = c .before .before .before .before in
+    head-is (start .args .p) (now (start .args .file)) _ (sym (start .pre .1) ∙ ap checkedOutcome (c .before .answer .given .1))
+
+few-states : (c : tie.After-known-told Inv-loop μ-loop) → c .before .answer .given .0 .0 .states ≤ 256
+few-states c =
+    let start = c .before .before .before .before in
+    omega (arith, is-headed c .states-are, states-high (start .args .p) (start .pre .0) (now (start .args .file)))
+
+-- ---- the needs
+
+returns : tie.Need-returns Inv-loop μ-loop
+returns c =
+    let start = c .before .before .before in
+    let is = ap checkedOutcome (c .enum-told .given .1) in
+    is ∙ sym (head-refused (start .args .p) (now (start .args .file)) (c .enum-told .given .0 .0) (sym (start .pre .1) ∙ is))
+
+edges-begin-requires : tie.Need-edges-begin-requires Inv-loop μ-loop
+edges-begin-requires c κs = (c .before .before .before .before .pre .0, few-states c)
+
+loop-holds : tie.Need-loop-holds Inv-loop μ-loop
+loop-holds c = rw (c .begin .ensures, c .before .edges-begin .ensures .0) (walk-begun _ _ _ _ _ _)
+
+step-requires : tie.Need-step-requires Inv-loop μ-loop
+step-requires c κs =
+    let loop = c .before .before .loop in
+    let told = c .before .before .before .before .before in
+    let start = told .before .before .before .before in
+    let ok = start .pre .0 in
+    let near = walk-near _ _ _ _ _ _ _ (loop .inv) ok (begin-high _ ok _ (few-states told)) (omega (arith, is-headed told .count-is, count-high _ ok (now (start .args .file)))) in
+    (ok, near .0, near .1, loop .inv .small)
+
+loop-less : tie.Need-loop-less Inv-loop μ-loop
+loop-less c =
+    let told = c .before .before .before in
+    let next = rw (c .before .step2 .given .1) at (told .step .ensures) in
+    omega (arith, next .0 .index, told .before .if1 .taken)
+
+loop-again : tie.Need-loop-again Inv-loop μ-loop
+loop-again c =
+    let told = c .before .before .before in
+    let next = rw (c .before .step2 .given .1) at (told .step .ensures) in
+    walk-next _ _ _ _ _ _ _ (told .before .before .before .loop .inv) (told .before .if1 .taken) _ (next .0) (next .1)
+
+returns-2 : tie.Need-returns-2 Inv-loop μ-loop
+returns-2 c =
+    let told = c .before .before .before in
+    let begun = told .before .before .before .before .before .before in
+    sym (check-faulty _ _ _ (is-headed begun) _ refl (c .before .step3 .given .0 .0)
+    (walk-faulty _ _ _ _ _ _ _ (told .before .before .before .loop .inv) (told .before .if1 .taken) _ (rw (c .before .step3 .given .1) at (told .step .ensures))))
+
+returns-3 : tie.Need-returns-3 Inv-loop μ-loop
+returns-3 c =
+    let loop = c .before .before .loop in
+    let begun = c .before .before .before .before .before in
+    sym (check-faultless _ _ _ (is-headed begun) _ refl (walk-done _ _ _ _ _ _ _ (loop .inv) (c .if1 .left)))
+
+pub check-as-spec : {M : Type 1} → statement M
+check-as-spec =
+    tie.close
+    (tie.spec
+    Inv-loop
+    μ-loop
+    (λ c. search needs)
+    (λ c. search needs)
+    returns
+    edges-begin-requires
+    (λ c κs. search needs)
+    loop-holds
+    step-requires
+    (λ c. search needs)
+    loop-less
+    loop-again
+    (λ c. search needs)
+    returns-2
+    returns-3)

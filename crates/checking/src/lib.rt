@@ -1,0 +1,103 @@
+// Checking a filter file.
+use edges::Cursor;
+use edges::Step;
+use layout::Profile;
+use layout::Reading;
+use refusals::Kind;
+use refusals::Refusal;
+ghost use mathlib.Core.Path.{_≡_};
+ghost use Prim.Native.Nat.{_≤_};
+ghost use Rattle.refusals.specs.Refusals.{onward, refusalOutcome};
+ghost use Rattle.layout.specs.Layout.{large};
+ghost use Rattle.layout.specs.Code.{Usable};
+ghost use Rattle.files.specs.Files.{headOf};
+ghost use Rattle.checking.specs.Promise.{checkedOutcome, CheckPromise};
+
+pub enum Checked {
+    Accepted(Reading),
+    Refused(Refusal),
+}
+
+// Reads the file's numbers, or says why it is refused.
+pub fn check(file: &[u8]) -> Checked
+    ensures { λ r. ⌜ CheckPromise large (now (file .entry)) r ⌝ }
+{
+    check_as(layout::large(), headed(file), file)
+}
+
+// The same for any widths, behind the tests before the edges.
+fn check_as(p: Profile, answer: Checked, file: &[u8]) -> Checked
+    requires { ⌜ Usable p × (checkedOutcome answer ≡ headOf p (now file)) ⌝ }
+    ensures { λ r. ⌜ CheckPromise p (now (file .entry)) r ⌝ }
+{
+    let Checked::Accepted(r) = answer else {
+        return answer;
+    };
+    let n = r.states;
+    let m = r.labels;
+    let e = r.edges;
+    let mut cursor = Cursor::begin(layout::edges_begin(p, n));
+    while cursor.index < e {
+        let step = cursor.step(p, file, n, m);
+        match step {
+            Step::Onward(next) => cursor = next,
+            Step::Faulty(why) => return Checked::Refused(why),
+        }
+    }
+    Checked::Accepted(r)
+}
+
+fn refused(kind: Kind) -> Checked
+    ensures { λ r. ⌜ r ≡ Checked.Refused (record { kind = kind; place = 0 }) ⌝ }
+{
+    Checked::Refused(refusals::plain(kind))
+}
+
+// What is tested before the edges: reads the file's numbers, or says which of refusals 1 to 6 it gets.
+pub fn headed(file: &[u8]) -> Checked
+    ensures { λ r. ⌜ checkedOutcome r ≡ headOf large (now (file .entry)) ⌝ }
+{
+    headed_as(layout::large(), file)
+}
+
+// The same for any widths. It has one caller, so that it is inlined there and the widths are constants.
+fn headed_as(p: Profile, file: &[u8]) -> Checked
+    requires { ⌜ Usable p ⌝ }
+    ensures { λ r. ⌜ checkedOutcome r ≡ headOf p (now (file .entry)) ⌝ }
+{
+    if file.len() < layout::bytes_for(layout::header_bits(p)) {
+        return refused(Kind::TooShort);
+    }
+    let r = layout::header::read(p, file);
+    let n = r.states;
+    let m = r.labels;
+    let e = r.edges;
+    if n <= r.start {
+        return refused(Kind::Start);
+    }
+    if n * m < e {
+        return refused(Kind::EdgeCount);
+    }
+    let bits = layout::file_bits(p, n, e);
+    let length = layout::bytes_for(bits);
+    if file.len() < length {
+        return refused(Kind::Missing);
+    }
+    if length < file.len() {
+        return refused(Kind::Excess);
+    }
+    if bits::get(file, bits, length * 8 - bits) != 0 {
+        return refused(Kind::Filling);
+    }
+    Checked::Accepted(r)
+}
+
+// The refusal of a check that refused, for a call that ends with it.
+pub fn refusal(answer: Checked) -> Refusal
+    ensures { λ r. ⌜ onward (checkedOutcome answer) (refusalOutcome r) ≡ refusalOutcome r ⌝ }
+{
+    match answer {
+        Checked::Accepted(_) => refusals::plain(Kind::TooShort),
+        Checked::Refused(why) => why,
+    }
+}

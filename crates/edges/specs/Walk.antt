@@ -1,0 +1,59 @@
+-- What the code's verdict and cursor stand for. No public call's promise speaks of these.
+-- Assumes nothing.
+use Prim.Native.Nat.{ℕ, _+_, _*_, _-_, _≤_}
+use mathlib.Core.Path.{_≡_}
+use mathlib.Core.Bool.{Bool, true, false}
+use mathlib.Core.List.{List}
+use mathlib.Core.Option.{Option, none, some}
+use lib.Dec.{eqb}
+use Rattle.meaning.specs.Filter as meaning
+use Rattle.refusals.specs.Refusals.{numberOf}
+use Rattle.refusals.specs.declared.Refusal.{Refusal}
+use Rattle.layout.specs.declared.Profile.{Profile}
+use Rattle.layout.specs.declared.edge.Edge.{Edge}
+use Rattle.layout.specs.Layout.{edgeBits}
+use Rattle.layout.specs.Contents.{edgeAt, edgesFrom}
+use Rattle.layout.specs.Code.{edgeOf, Small}
+use Rattle.edges.specs.declared.Verdict.{Verdict}
+use Rattle.edges.specs.declared.Verdict.the-variants as verdict
+use Rattle.edges.specs.declared.Cursor.{Cursor}
+use Rattle.edges.specs.declared.Step.{Step}
+use Rattle.edges.specs.declared.Step.the-variants as step
+use Rattle.edges.specs.Faults.{Fault, edgeFault, faultAt, firstFault}
+
+-- The edge before one; `true`: the first edge, which has none before it.
+abbrev pub edgeBefore : Bool → Edge → Option meaning.Edge
+edgeBefore true before = none
+edgeBefore false before = some (edgeOf before)
+
+abbrev pub faultIs : Refusal → Option Fault
+faultIs r = some (record { number = numberOf (r .kind); index = r .place })
+
+abbrev pub faultOf : Verdict → Option Fault
+faultOf verdict.Faultless = none
+faultOf (verdict.Faulty r) = faultIs r
+
+-- The fault of the edge that a cursor stands before.
+abbrev pub faultNext : Profile → List ℕ → ℕ → ℕ → Cursor → Option Fault
+faultNext P file n m c =
+    faultAt (c .index) (edgeFault n m (edgeBefore (eqb (c .index) 0) (c .before)) (edgeAt P file (c .place))) none
+
+-- A cursor one edge further: that edge is now the one before.
+pub record Next (P : Profile) (file : List ℕ) (c c′ : Cursor) : Type 0 where
+  pub edge : edgeOf (c′ .before) ≡ edgeAt P file (c .place)
+  pub place : c′ .place ≡ c .place + edgeBits P
+  pub index : c′ .index ≡ c .index + 1
+  pub small : Small (c′ .before)
+
+-- What a step makes of a cursor: the next one where the edge has no fault, and else the fault.
+abbrev pub Stepped : Profile → List ℕ → ℕ → ℕ → Cursor → Step → Type 0
+Stepped P file n m c (step.Onward c′) = Next P file c c′ × (faultNext P file n m c ≡ none)
+Stepped P file n m c (step.Faulty why) = faultNext P file n m c ≡ faultIs why
+
+-- A walk over e edges from bit `at` on has come to a cursor without a fault: the first fault is that of the edges left.
+pub record Walked (P : Profile) (file : List ℕ) (at e n m : ℕ) (c : Cursor) : Type 0 where
+  pub inside : c .index ≤ e
+  pub placed : c .place ≡ at + edgeBits P * c .index
+  pub small : Small (c .before)
+  pub left : firstFault n m none 0 (edgesFrom P file at e)
+      ≡ firstFault n m (edgeBefore (eqb (c .index) 0) (c .before)) (c .index) (edgesFrom P file (c .place) (e - c .index))

@@ -1,0 +1,58 @@
+-- `layout::header::put` meets its contract. Assumes nothing.
+use mathlib.Core.Path.{_∙_}
+use native.Mathlib.Omega.{arith}
+use borrow.Author.Needs.{needs}
+use Rattle.pen.specs.Runs.{total, Fit}
+use Rattle.pen.proofs.Pens.{drawn-behind}
+use Rattle.layout.proofs.header.put.Statement.{statement}
+use Rattle.layout.proofs.header.put.Tie as tie
+
+push-requires : tie.Need-push-requires
+unfolding Fit total
+push-requires c κs =
+    let sizes = c .before .before .before in
+    let is = sizes .push-sizes .ensures in
+    let pre = sizes .before .before .before .pre in
+    record {
+      ready = is .ready;
+      narrow = omega (arith, pre .usable .start≤);
+      small = pre .fit .1 .1 .0;
+      near = omega (arith, is .place, pre .usable .states≤, pre .usable .labels≤, pre .usable .start≤);
+    }
+
+push-requires-2 : tie.Need-push-requires-2
+unfolding Fit total
+push-requires-2 c κs =
+    let push = c .before .before .before in
+    let sizes = push .before .before .before .before in
+    let begun = push .push .ensures in
+    let is = sizes .push-sizes .ensures in
+    let pre = sizes .before .before .before .pre in
+    record {
+      ready = begun .ready;
+      narrow = omega (arith, pre .usable .edges≤);
+      small = pre .fit .1 .1 .1 .0;
+      near = omega (arith, begun .place, is .place, pre .usable .states≤, pre .usable .labels≤, pre .usable .start≤, pre .usable .edges≤);
+    }
+
+finish-requires : tie.Need-finish-requires
+finish-requires c κs = c .before .before .before .push2 .ensures .ready
+
+returns : tie.Need-returns
+returns c =
+    let done = c .before .before in
+    let push2 = done .before .before .before .before in
+    let push1 = push2 .before .before .before .before in
+    let sizes = push1 .before .before .before .before in
+    done .finish .ensures ∙ drawn-behind (drawn-behind (sizes .push-sizes .ensures) (push1 .push .ensures)) (push2 .push2 .ensures) .ink
+
+pub put-spec : {M : Type 1} → statement M
+put-spec =
+    tie.close
+    (tie.spec
+    (λ c κs. search needs)
+    push-requires
+    push-requires-2
+    finish-requires
+    (λ c. search needs)
+    returns)

@@ -1,0 +1,92 @@
+// How a filter stands in a file: the widths of its fields, sizes and positions, the four numbers before the colours, and one edge.
+pub mod edge; // one edge, read or written
+pub mod header; // the four numbers before the colours
+
+ghost use mathlib.Core.Path.{_≡_};
+ghost use Prim.Native.Nat.{_≤_, _^_};
+ghost use Rattle.bits.specs.Bits.{putField};
+ghost use Rattle.layout.specs.Layout.{large, headerBits, edgeBits, edgesBegin, fileBits, fillBits, bytesFor};
+ghost use Rattle.layout.specs.Contents.{statesIn};
+ghost use Rattle.layout.specs.Code.{Usable};
+
+// The widths in bits of a file's fields: states, labels, start, edges, and one colour.
+pub struct Profile {
+    pub states: usize,
+    pub labels: usize,
+    pub start: usize,
+    pub edges: usize,
+    pub colour: usize,
+}
+
+// The numbers of an accepted file: n, m, the start and e.
+pub struct Reading {
+    pub states: usize,
+    pub labels: usize,
+    pub start: usize,
+    pub edges: usize,
+}
+
+pub fn large() -> Profile
+    ensures { λ r. ⌜ r ≡ large ⌝ }
+{
+    Profile {
+        states: 8,
+        labels: 6,
+        start: 8,
+        edges: 15,
+        colour: 6,
+    }
+}
+
+pub fn header_bits(p: Profile) -> usize
+    requires { ⌜ Usable p ⌝ }
+    ensures { λ r. ⌜ (r ≡ headerBits p) × (r ≤ 48) ⌝ }
+{
+    p.states + p.labels + p.start + p.edges
+}
+
+pub fn edge_bits(p: Profile) -> usize
+    requires { ⌜ Usable p ⌝ }
+    ensures { λ r. ⌜ (r ≡ edgeBits p) × (r ≤ 24) ⌝ }
+{
+    p.states + p.labels + p.states
+}
+
+pub fn edges_begin(p: Profile, n: usize) -> usize
+    requires { ⌜ Usable p × (n ≤ 256) ⌝ }
+    ensures { λ r. ⌜ (r ≡ edgesBegin p n) × (r ≤ 2096) ⌝ }
+{
+    header_bits(p) + p.colour * n
+}
+
+pub fn file_bits(p: Profile, n: usize, e: usize) -> usize
+    requires { ⌜ Usable p × (n ≤ 256) × (e ≤ 65536) ⌝ }
+    ensures { λ r. ⌜ (r ≡ fileBits p n e) × (r ≤ 1574960) ⌝ }
+{
+    edges_begin(p, n) + edge_bits(p) * e
+}
+
+// The least whole number of bytes that holds so many bits.
+pub fn bytes_for(bits: usize) -> usize
+    requires { ⌜ bits ≤ 2 ^ 32 ⌝ }
+    ensures { λ r. ⌜ r ≡ bytesFor bits ⌝ }
+{
+    (bits + 7) / 8
+}
+
+// The number of states that a file states, whether it is accepted or not.
+pub fn states(p: Profile, file: &[u8]) -> usize
+    requires { ⌜ Usable p ⌝ }
+    ensures { λ r. ⌜ (r ≡ statesIn p (now (file .entry))) × (r ≤ 256) ⌝ }
+{
+    bits::get(file, 0, p.states) as usize + 1
+}
+
+// Zero bits to the end of the byte.
+pub fn fill(p: Profile, room: &mut [u8], n: usize, e: usize)
+    requires { ⌜ Usable p × (n ≤ 256) × (e ≤ 65536) ⌝ }
+    ensures { λ _. ⌜ now (room .exit) ≡ putField (now (room .entry)) (fileBits p n e) (fillBits p n e) 0 ⌝ }
+{
+    let bits = file_bits(p, n, e);
+    bits::put(room, bits, bytes_for(bits) * 8 - bits, 0);
+}

@@ -1,0 +1,87 @@
+-- Laws of refusals: a number tells its kind, tests in a row are taken apart, and a room holds what a promise says.
+-- Assumes nothing.
+use Prim.Native.Nat.{ℕ}
+use mathlib.Core.Path.{_≡_, refl, sym, ap, _∙_}
+use mathlib.Core.Bool.{Bool, true, false}
+use mathlib.Core.List.{List, [], _∷_}
+use lib.Dec.{eqb}
+use lib.ListN.{length, take, drop}
+use lib.Seq.{take-at}
+use Rattle.meaning.specs.Pick.{pick}
+use Rattle.meaning.specs.Cases.{clash, test}
+use Rattle.refusals.specs.declared.Kind.{Kind}
+use Rattle.refusals.specs.declared.Kind.the-variants.{TooShort, Start, EdgeCount, Missing, Excess, Filling, Outside, Order, Repeated, AnswerRoom, ClassRoom, Room, Observation, Lists}
+use Rattle.refusals.specs.declared.Refusal.{Refusal}
+use Rattle.refusals.specs.Refusals.{numberOf, Outcome, accepted, refused, refusalOutcome, Test, firstOf, onward, laid, roomAfter}
+
+-- ---- the number tells the kind
+
+kinds : List Kind
+kinds = TooShort ∷ Start ∷ EdgeCount ∷ Missing ∷ Excess ∷ Filling ∷ Outside ∷ Order ∷ Repeated ∷ AnswerRoom ∷ ClassRoom ∷ Room ∷ Observation ∷ Lists ∷ []
+
+-- the kind in a list that has this number
+kindOf : List Kind → ℕ → Kind
+kindOf [] n = TooShort
+kindOf (k ∷ ks) n = pick (eqb (numberOf k) n) k (kindOf ks n)
+
+kind-back : (k : Kind) → kindOf kinds (numberOf k) ≡ k
+unfolding kinds kindOf
+kind-back TooShort = refl
+kind-back Start = refl
+kind-back EdgeCount = refl
+kind-back Missing = refl
+kind-back Excess = refl
+kind-back Filling = refl
+kind-back Outside = refl
+kind-back Order = refl
+kind-back Repeated = refl
+kind-back AnswerRoom = refl
+kind-back ClassRoom = refl
+kind-back Room = refl
+kind-back Observation = refl
+kind-back Lists = refl
+
+pub number-one : (a b : Kind) → numberOf a ≡ numberOf b → a ≡ b
+number-one a b e = sym (kind-back a) ∙ ap (kindOf kinds) e ∙ kind-back b
+
+refusal-parts : (a b : Refusal) → a .kind ≡ b .kind → a .place ≡ b .place → a ≡ b
+refusal-parts a b k p = ap (λ (x : Kind). record { kind = x; place = a .place }) k ∙ ap (λ (y : ℕ). record { kind = b .kind; place = y }) p
+
+pub refusal-one : (a b : Refusal) → refusalOutcome a ≡ refusalOutcome b → a ≡ b
+refusal-one a b e =
+    let n : numberOf (a .kind) ≡ numberOf (b .kind) = cc in
+    let p : a .place ≡ b .place = cc in
+    refusal-parts a b (number-one (a .kind) (b .kind) n) p
+
+-- ---- tests in a row
+
+-- None of the tests is given.
+abbrev pub Passed : List Test → Type 0
+Passed [] = Unit {0}
+Passed (t ∷ ts) = (t .given ≡ false) × Passed ts
+
+refuse-accepted : (b : Bool) (k p : ℕ) (next : Outcome) (vs : List ℕ) → pick b (refused k p) next ≡ accepted vs → (b ≡ false) × (next ≡ accepted vs)
+refuse-accepted true k p next vs h = clash cc
+refuse-accepted false k p next vs h = (refl, h)
+
+pub first-accepted : (ts : List Test) (next : Outcome) (vs : List ℕ) → firstOf ts next ≡ accepted vs → Passed ts × (next ≡ accepted vs)
+first-accepted [] next vs h = (tt, h)
+first-accepted (t ∷ ts) next vs h =
+    let a = refuse-accepted (t .given) (t .number) 0 (firstOf ts next) vs h in
+    let b = first-accepted ts next vs (a .1) in
+    ((a .0, b .0), b .1)
+
+pub first-passed : (ts : List Test) (next : Outcome) → Passed ts → firstOf ts next ≡ next
+first-passed [] next p = refl
+first-passed (t ∷ ts) next p = rw (p .0) (first-passed ts next (p .1))
+
+-- the first of the tests that is given is also the first of them before anything else that follows
+pub first-onward : (ts : List Test) (vs : List ℕ) (next : Outcome) → firstOf ts next ≡ onward (firstOf ts (accepted vs)) next
+first-onward [] vs next = refl
+first-onward (t ∷ ts) vs next = test (t .given) (λ q. rw q) (λ q. rw q (first-onward ts vs next))
+
+-- ---- rooms
+
+-- the beginning of a room that was written
+pub laid-front : (bytes room : List ℕ) (n : ℕ) → length bytes ≡ n → take n (laid bytes room) ≡ bytes
+laid-front bytes room n h = take-at bytes (drop (length bytes) room) n h
