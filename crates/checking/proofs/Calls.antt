@@ -1,0 +1,21 @@
+-- What a call that begins with a check knows of the file: its refusal, or its numbers. Assumes nothing.
+use mathlib.Core.Path.{_≡_, sym, ap, _∙_}
+use mathlib.Core.List.{List}
+use Prim.Native.Nat.{ℕ}
+use Rattle.refusals.specs.declared.Refusal.{Refusal}
+use Rattle.refusals.specs.Refusals.{onward, refusalOutcome}
+use Rattle.layout.specs.declared.Profile.{Profile}
+use Rattle.layout.specs.declared.Reading.{Reading}
+use Rattle.files.specs.Files.{checkOf}
+use Rattle.files.specs.Tests.{ReadIs, reading-is}
+use Rattle.checking.specs.declared.Checked.{Checked}
+use Rattle.checking.specs.declared.Checked.the-variants as checked
+use Rattle.checking.specs.Promise.{checkedOutcome, CheckPromise}
+
+module _ (P : Profile) (s : List ℕ) (a : Checked) (p : CheckPromise P s a) where
+  -- `same` is what `refusal` ensures
+  pub refused-is : (why r : Refusal) → a ≡ checked.Refused why → onward (checkedOutcome a) (refusalOutcome r) ≡ refusalOutcome r → checkOf P s ≡ refusalOutcome r
+  refused-is why r e same = sym p ∙ ap checkedOutcome e ∙ (rw e at same)
+
+  pub read-is : (r : Reading) → a ≡ checked.Accepted r → ReadIs P s r
+  read-is r e = reading-is P s r (sym p ∙ ap checkedOutcome e)

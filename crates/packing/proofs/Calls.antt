@@ -1,0 +1,49 @@
+-- What pack answers in each of its cases, and what accepted lists are.
+-- Assumes nothing.
+use mathlib.Core.Path.{_≡_, sym, ap, _∙_}
+use mathlib.Core.Bool.{true}
+use mathlib.Core.List.{List, [], _∷_}
+use Prim.Native.Nat.{ℕ, _*_, _/_, _%_}
+use native.Mathlib.Omega.{arith}
+use lib.Dec.{eqb}
+use lib.ListN.{length}
+use borrow.Author.Tests.{eqb-true}
+use Rattle.refusals.specs.declared.Refusal.{Refusal}
+use Rattle.refusals.specs.Refusals.{accepted, refusalOutcome, laid}
+use Rattle.layout.specs.declared.Profile.{Profile}
+use Rattle.layout.specs.Layout.{flat, threes, listed, written}
+use Rattle.layout.specs.Code.{Usable}
+use Rattle.layout.proofs.EdgeLists.{flat-threes, length-threes}
+use Rattle.files.specs.Tests.{Written, write-written}
+use Rattle.packing.specs.declared.Packed.{Packed}
+use Rattle.packing.specs.declared.Packed.the-variants as packed
+use Rattle.packing.specs.Promise.{packedOutcome, packOf, PackPromise}
+
+module _ (P : Profile) (ok : Usable P) where
+  module _ (cs es : List ℕ) (m st room : ℕ) (vs : List ℕ) (h : packOf P cs es m st room ≡ accepted vs) where
+    pub pack-passed : Written P (listed cs es m st) (eqb (length es % 3) 0) room vs
+    unfolding packOf
+    pack-passed = write-written P (listed cs es m st) (eqb (length es % 3) 0) room vs h
+
+    pub whole-edges : length es ≡ 3 * (length es / 3)
+    whole-edges = omega (arith, eqb-true (length es % 3) 0 (pack-passed .is-whole))
+
+    pub count-listed : length (threes es) ≡ length es / 3
+    count-listed = length-threes (length es / 3) es whole-edges
+
+    pub flat-listed : flat (threes es) ≡ es
+    flat-listed = flat-threes (length es / 3) es whole-edges
+
+-- what pack's lists make of its answer: nothing of the room is changed by a refusal, and the file is laid into it otherwise
+pub pack-refused : (P : Profile) (cs es : List ℕ) (m st : ℕ) (room : List ℕ) (r : Packed) (why : Refusal) →
+    packedOutcome r ≡ packOf P cs es m st (length room) → r ≡ packed.Refused why → PackPromise P cs es m st room r room
+pack-refused P cs es m st room r why h e =
+    let k : packOf P cs es m st (length room) ≡ refusalOutcome why = sym h ∙ ap packedOutcome e in
+    record { answer = h; room-after = rw k }
+
+pub pack-laid : (P : Profile) (cs es : List ℕ) (m st : ℕ) (room : List ℕ) (r : Packed) (n : ℕ) →
+    packedOutcome r ≡ packOf P cs es m st (length room) → r ≡ packed.Accepted n →
+    PackPromise P cs es m st room (packed.Accepted n) (laid (written P (listed cs es m st)) room)
+pack-laid P cs es m st room r n h e =
+    let k : packOf P cs es m st (length room) ≡ accepted (n ∷ []) = sym h ∙ ap packedOutcome e in
+    record { answer = sym k; room-after = rw k }

@@ -1,0 +1,28 @@
+-- Only one outcome meets pack's contract, the answer and every byte of the room, as the check of this crate reads it. Assumes nothing.
+use contract.Lifetimes.{Lfts}
+use borrow.Fn.World.{ArgsD, ResD}
+use borrow.Fn.Kinds.{endedOf}
+use denote.Ref.{now}
+use denote.Triple.Clauses.{AtExit}
+use mathlib.Core.Path.{_≡_, sym, ap, _∙_}
+use Rattle.meaning.specs.Cases.{clash}
+use Rattle.refusals.proofs.Laws.{refusal-one}
+use Rattle.packing.specs.declared.Packed.{Packed}
+use Rattle.packing.specs.declared.Packed.the-variants as packed
+use Rattle.packing.specs.Promise.{packedOutcome}
+use Rattle.packing.proofs.pack as pack
+use Rattle.packing.proofs.pack.Kinds as pack-kinds
+use Rattle.packing.proofs.pack.Reads as pack-reads
+
+pub packed-one : (a b : Packed) → packedOutcome a ≡ packedOutcome b → a ≡ b
+packed-one (packed.Accepted m) (packed.Accepted n) e = ap packed.Accepted (cc e)
+packed-one (packed.Refused r) (packed.Refused s) e = ap packed.Refused (refusal-one r s e)
+packed-one (packed.Accepted m) (packed.Refused s) e = clash cc
+packed-one (packed.Refused r) (packed.Accepted n) e = clash cc
+
+pub pack-contract-one : (κs : Lfts 3) (a : ArgsD pack.signature κs) (r₁ r₂ : ResD pack.signature κs)
+    (s₁ s₂ : AtExit (endedOf 3 pack-kinds.ps pack-kinds.r) κs) →
+    pack-reads.Post κs a r₁ s₁ → pack-reads.Post κs a r₂ s₂ →
+    (r₁ ≡ r₂) × (now (s₁ .1 .1 .1 .1 .0) ≡ now (s₂ .1 .1 .1 .1 .0))
+pack-contract-one κs a r₁ r₂ s₁ s₂ p₁ p₂ =
+    (packed-one r₁ r₂ (p₁ .answer ∙ sym (p₂ .answer)), p₁ .room-after ∙ sym (p₂ .room-after))
