@@ -5,26 +5,23 @@ use file::Profile;
 use file::edge::Edge;
 use file::layout;
 ghost use mathlib.Core.Path.{_≡_};
-ghost use mathlib.Core.Bool.{true};
-ghost use mathlib.Core.List.{_∷_, []};
 ghost use Prim.Native.Nat.{ℕ, _+_, _*_, _/_, _<_, _≤_, _^_};
 ghost use lib.ListN.{length};
 ghost use Rattle.meaning.specs.Search.{at};
-ghost use Rattle.meaning.specs.Reduced.{row, listed};
+ghost use Rattle.meaning.specs.Reduced.{row};
 ghost use Rattle.meaning.specs.Listing.{cells};
 ghost use Rattle.bits.specs.Bits.{inked, placeOf, Ready};
 ghost use Rattle.file.specs.Layout.{edgeBits, putEdges, lengthOf, written};
-ghost use Rattle.file.specs.Answers.{accepted};
-ghost use Rattle.file.specs.Refusals.{laid, writeOf};
+ghost use Rattle.file.specs.Refusals.{laid};
 ghost use Rattle.sets.specs.Sets.{holds};
 ghost use Rattle.table.specs.Table.{table};
-ghost use Rattle.storing.specs.Stored.{rowEdge, stored, Storable};
+ghost use Rattle.storing.specs.Stored.{rowEdge, edgesOf, stored, Storable, Fileable};
 
 // How many edges the rows have.
 fn edge_count(labels: &[u64], order: &[u16]) -> usize
     requires { ⌜ (length (now order) ≤ 256) × ((k : ℕ) → k < length (now order) → at (now order) k < length (now labels)) ⌝ }
-    ensures { λ r. ⌜ (r ≡ cells (λ k y. holds (at (now (labels .entry)) (at (now (order .entry)) k)) y) (length (now (order .entry))) 64)
-        × (r ≤ 16384) ⌝ }
+    ensures { λ r. ⌜ (r ≤ 16384) × (r
+        ≡ cells (λ k y. holds (at (now (labels .entry)) (at (now (order .entry)) k)) y) (length (now (order .entry))) 64) ⌝ }
 {
     let mut e = 0;
     let mut k = 0;
@@ -46,12 +43,12 @@ fn put_row(
     k: usize,
     list: &[u16],
 ) -> Pen
-    requires { ⌜ Storable p (table (now targets) (now labels)) (now order) (now list) (2 ^ p .labels) × (k < length (now order)) ⌝ }
-    requires { ⌜ Ready begun × (placeOf begun ≤ 2 ^ 32) ⌝ }
+    requires { ⌜ Storable p (table (now targets) (now labels)) (now order) (now list) (2 ^ p .labels) ⌝ }
+    requires { ⌜ (k < length (now order)) × Ready begun × (placeOf begun ≤ 2 ^ 32) ⌝ }
     ensures edges { λ r. ⌜ inked (now (part .exit)) r ≡ putEdges p (inked (now (part .entry)) begun) (placeOf begun)
         (row (rowEdge (table (now (targets .entry)) (now (labels .entry))) (now (order .entry)) (now (list .entry)) k) k 64) ⌝ }
-    ensures behind { λ r. ⌜ (placeOf r ≡ placeOf begun + edgeBits p * length
-        (row (rowEdge (table (now (targets .entry)) (now (labels .entry))) (now (order .entry)) (now (list .entry)) k) k 64)) ⌝ }
+    ensures behind { λ r. ⌜ placeOf r ≡ placeOf begun + edgeBits p * length
+        (row (rowEdge (table (now (targets .entry)) (now (labels .entry))) (now (order .entry)) (now (list .entry)) k) k 64) ⌝ }
     ensures ready { λ r. ⌜ (placeOf r ≤ placeOf begun + 1536) × Ready r ⌝ }
 {
     let s = arrays::wide(order[k]);
@@ -81,10 +78,10 @@ fn put_rows(
     order: &[u16],
     list: &[u16],
 )
-    requires { ⌜ Storable p (table (now targets) (now labels)) (now order) (now list) (2 ^ p .labels) × (bit ≤ 7) ⌝ }
+    requires { ⌜ Storable p (table (now targets) (now labels)) (now order) (now list) (2 ^ p .labels) ⌝ }
+    requires { ⌜ bit ≤ 7 ⌝ }
     ensures { λ _. ⌜ now (part .exit) ≡ putEdges p (now (part .entry)) bit
-        (listed (rowEdge (table (now (targets .entry)) (now (labels .entry))) (now (order .entry)) (now (list .entry)))
-        (length (now (order .entry))) 64) ⌝ }
+        (edgesOf (table (now (targets .entry)) (now (labels .entry))) (now (order .entry)) (now (list .entry)) 64) ⌝ }
 {
     let mut pen = pen::begin(part, bit);
     let mut k = 0;
@@ -95,7 +92,8 @@ fn put_rows(
     pen::finish(part, pen);
 }
 
-// The edges stand behind the colours, from a bit on: the room's later part is lent on, with the starting bit inside its first byte.
+// The edges stand behind the colours, from a bit on: the room's later part is lent on, with the starting bit inside its first
+// byte.
 fn put_edges(
     p: Profile,
     room: &mut [u8],
@@ -105,10 +103,10 @@ fn put_edges(
     order: &[u16],
     list: &[u16],
 )
-    requires { ⌜ Storable p (table (now targets) (now labels)) (now order) (now list) (2 ^ p .labels) × (bit / 8 ≤ length (now room)) ⌝ }
+    requires { ⌜ Storable p (table (now targets) (now labels)) (now order) (now list) (2 ^ p .labels) ⌝ }
+    requires { ⌜ bit / 8 ≤ length (now room) ⌝ }
     ensures { λ _. ⌜ now (room .exit) ≡ putEdges p (now (room .entry)) bit
-        (listed (rowEdge (table (now (targets .entry)) (now (labels .entry))) (now (order .entry)) (now (list .entry)))
-        (length (now (order .entry))) 64) ⌝ }
+        (edgesOf (table (now (targets .entry)) (now (labels .entry))) (now (order .entry)) (now (list .entry)) 64) ⌝ }
 {
     let from = bit / 8;
     put_rows(p, &mut room[from..], bit % 8, targets, labels, order, list);
@@ -126,10 +124,8 @@ pub fn write(
     order: &[u16],
     list: &[u16],
 ) -> usize
-    requires { ⌜ Storable p (table (now targets) (now labels)) (now order) (now list) m × (m ≤ 64) ⌝ }
-    requires { ⌜ (length (now order) ≡ length (now colours))
-        × (writeOf p (stored (table (now targets) (now labels)) (now order) (now list) (now colours) m start) true (length (now room))
-        ≡ accepted (lengthOf p (stored (table (now targets) (now labels)) (now order) (now list) (now colours) m start) ∷ [])) ⌝ }
+    requires { ⌜ Fileable p (table (now targets) (now labels)) (now order) (now list) (now colours) m start
+        (length (now room)) ⌝ }
     ensures bytes { λ r. ⌜ now (room .exit) ≡ laid (written p (stored (table (now (targets .entry)) (now (labels .entry)))
         (now (order .entry)) (now (list .entry)) (now (colours .entry)) m start)) (now (room .entry)) ⌝ }
     ensures length { λ r. ⌜ r ≡ lengthOf p (stored (table (now (targets .entry)) (now (labels .entry)))

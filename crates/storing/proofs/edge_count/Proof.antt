@@ -52,7 +52,7 @@ returns c =
     let loop = c .before .loop in
     let start = c .before .before .before .before in
     let all : loop .k ≡ length (now (start .args .order)) = le-antisymm (loop .inv .0) (c .loop-test .left) in
-    (loop .inv .2 ∙ ap (λ (k : ℕ). Listing.cells (λ i y. holds (at (now (start .args .labels)) (at (now (start .args .order)) i)) y) k 64) all, omega (arith, loop .inv .1, start .pre .0))
+    (omega (arith, loop .inv .1, start .pre .0), loop .inv .2 ∙ ap (λ (k : ℕ). Listing.cells (λ i y. holds (at (now (start .args .labels)) (at (now (start .args .order)) i)) y) k 64) all)
 
 pub edge-count-spec : {M : Type 1} → statement M
 edge-count-spec =

@@ -8,10 +8,9 @@ use denote.Ref.{now}
 use lib.ListN.{length}
 use Rattle.bits.proofs.Parts.{puts-drop, lent-tail, back-tail}
 use Rattle.meaning.specs.Filter.{Edge}
-use Rattle.meaning.specs.Reduced.{listed}
 use Rattle.file.specs.Layout.{edgeWidths, flat, putEdges}
 use Rattle.table.specs.Table.{table}
-use Rattle.storing.specs.Stored.{rowEdge}
+use Rattle.storing.specs.Stored.{edgesOf}
 use Rattle.storing.proofs.put_edges.Statement.{statement}
 use Rattle.storing.proofs.put_edges.Tie as tie
 
@@ -22,7 +21,7 @@ returns c =
     let a = start .args in
     let room = now (a .room) in
     let from = a .bit / 8 in
-    let es : List Edge = listed (rowEdge (table (now (a .targets)) (now (a .labels))) (now (a .order)) (now (a .list))) (length (now (a .order))) 64 in
+    let es : List Edge = edgesOf (table (now (a .targets)) (now (a .labels))) (now (a .order)) (now (a .list)) 64 in
     let at : from * 8 + a .bit % 8 ≡ a .bit = omega arith in
     back-tail room (put .put-rows .last .1 .0) from
     ∙ rw (put .put-rows .ensures, lent-tail room from)

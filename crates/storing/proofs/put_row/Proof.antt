@@ -1,10 +1,9 @@
 -- `storing::put_row` meets its contract. The invariant: the row is written or held up to a label, and the rest is left.
 -- Assumes nothing.
-use mathlib.Core.Path.{_≡_, refl, sym, ap, ap₂, _∙_, subst}
+use mathlib.Core.Path.{_≡_, refl, sym, ap, _∙_, subst}
 use mathlib.Core.Bool.{false}
-use mathlib.Core.List.{List}
-use mathlib.Core.Option.{Option, none, some}
-use Prim.Native.Nat.{ℕ, _+_, _*_, _≤_, _<_}
+use mathlib.Core.Option.{none, some}
+use Prim.Native.Nat.{ℕ, _+_}
 use native.Mathlib.Omega.{arith}
 use borrow.Author.Needs.{needs}
 use denote.Ref.{now}
@@ -35,7 +34,7 @@ row-there : (c : tie.After-wide Inv-loop μ-loop) →
 row-there c =
     let start = c .before .before .before .before .before .before .before in
     let a = start .args in
-    subst (λ (s : ℕ). Rows (table (now (a .targets)) (now (a .labels))) (s + 1)) (sym (c .wide .ensures)) (start .pre .0 .0 .rows (a .k) (start .pre .0 .1))
+    subst (λ (s : ℕ). Rows (table (now (a .targets)) (now (a .labels))) (s + 1)) (sym (c .wide .ensures)) (start .pre .0 .rows (a .k) (start .pre .1 .0))
 
 -- a label that is not in the row's set has no edge
 only : (c : tie.After-wide Inv-loop μ-loop) →
@@ -65,7 +64,7 @@ shared-slice-read-rest : tie.Need-shared-slice-read-rest Inv-loop μ-loop
 shared-slice-read-rest c = omega (arith, row-there (c .before) .labels-long)
 
 loop-holds : tie.Need-loop-holds Inv-loop μ-loop
-loop-holds c = (refl, c .before .before .before .before .before .before .before .before .pre .1 .0, row-begun _ _ _ _ _ _)
+loop-holds c = (refl, c .before .before .before .before .before .before .before .before .pre .1 .1, row-begun _ _ _ _ _ _)
 
 target-requires : tie.Need-target-requires Inv-loop μ-loop
 target-requires c κs = (c .lowest .ensures .0, omega (arith, row-there (c .before .before .before .before) .targets-long))
@@ -73,18 +72,18 @@ target-requires c κs = (c .lowest .ensures .0, omega (arith, row-there (c .befo
 shared-slice-read-wide-2 : tie.Need-shared-slice-read-wide-2 Inv-loop μ-loop
 shared-slice-read-wide-2 c =
     let start = c .before .before .before .before .before .before .before .before .before .before .before .before .before in
-    start .pre .0 .0 .listed _ _ _ (start .pre .0 .1) (found (c .before))
+    start .pre .0 .listed _ _ _ (start .pre .1 .0) (found (c .before))
 
 push-requires : tie.Need-push-requires Inv-loop μ-loop
 push-requires c κs =
     let loop = c .before .before .before .before .before .before .loop in
     let start = c .before .before .before .before .before .before .before .before .before .before .before .before .before .before .before in
-    let can = start .pre .0 .0 in
-    let in-range = start .pre .0 .1 in
+    let can = start .pre .0 in
+    let in-range = start .pre .1 .0 in
     let to = found (c .before .before .before) in (
       can .usable,
       loop .inv .1,
-      omega (arith, loop .inv .2 .low, loop .inv .2 .most, start .pre .1 .1),
+      omega (arith, loop .inv .2 .low, loop .inv .2 .most, start .pre .1 .2),
       omega (arith, in-range, can .states),
       can .label _ _ _ in-range to,
       rw (c .before .wide2 .ensures) (can .target _ _ _ in-range to),
@@ -103,7 +102,7 @@ loop-again c =
     let edge = led-some (now (a .list)) _ _ (found (c .before .before .before .before .before .before .before)) ∙ ap some (sym (c .before .before .before .before .before .wide2 .ensures)) in (
       push .kept .1 .0 ∙ loop .inv .0,
       push .ensures .2,
-      row-more _ _ _ _ _ _ _ _ _ (loop .inv .2) (only (c .before .before .before .before .before .before .before .before .before .before .before .before)) _ _ (low .0) (low .1) edge _ _ _ (push .ensures .0) (push .ensures .1) (edge-high (a .p) (start .pre .0 .0 .usable))
+      row-more _ _ _ _ _ _ _ _ _ (loop .inv .2) (only (c .before .before .before .before .before .before .before .before .before .before .before .before)) _ _ (low .0) (low .1) edge _ _ _ (push .ensures .0) (push .ensures .1) (edge-high (a .p) (start .pre .0 .usable))
           (λ j. c .without-lowest .ensures .1 _ j (low .1)),
     )
 

@@ -39,7 +39,7 @@ put-row-requires c κs =
     let loop = in-loop .before .loop in
     let pre = c .before .before .before .before .before .before .before .before .before .before .pre in
     let few = states-pow _ (pre .0 .usable) in
-    ((pre .0, in-loop .loop-test .taken), (loop .inv .2, omega (arith, loop .inv .3, loop .inv .0, pre .0 .states, few, pre .1)))
+    (pre .0, (in-loop .loop-test .taken, loop .inv .2, omega (arith, loop .inv .3, loop .inv .0, pre .0 .states, few, pre .1)))
 
 add-k : tie.Need-add-k Inv-loop μ-loop
 add-k c = let can = c .before .before .before .before .before .before .before .before .before .before .before .before .before .pre .0 in omega (arith, c .before .before .before .before .loop-test .taken, can .states, states-pow _ (can .usable))
