@@ -39,9 +39,6 @@ loop-again c =
       laid-more hue (now (a .hues)) (loop .hues) (loop .k) _ (omega (arith, in-loop .loop-test .taken, start .pre .0 .0)) (loop .inv .2) (ap (at (now (a .colours))) (c .before .wide .ensures)),
     )
 
-same-length : tie.Need-same-length Inv-loop μ-loop
-same-length c = c .before .loop .inv .1
-
 returns : tie.Need-returns Inv-loop μ-loop
 returns c =
     let loop = c .before .loop in
@@ -64,5 +61,5 @@ colours-by-spec =
     (λ c. search needs)
     (λ c. search needs)
     loop-again
-    same-length
+    (λ c. c .before .loop .inv .1)
     returns)

@@ -18,9 +18,6 @@ Inv-loop targets₀ labels₀ names n t₀ targets labels t = (t ≤ n) × Gathe
 abbrev μ-loop : tie.MeasureT-loop
 μ-loop targets₀ labels₀ names n t₀ targets labels t = n - t
 
-loop-holds : tie.Need-loop-holds Inv-loop μ-loop
-loop-holds c = (omega arith, gathering-begins _ _)
-
 give-requires : tie.Need-give-requires Inv-loop μ-loop
 give-requires c κs =
     let loop = c .before .before .before .before .before .before .loop in
@@ -34,7 +31,7 @@ give-requires c κs =
       targets-long = omega (arith, same .targets-same, rows .targets-long, taken);
       labels-long = omega (arith, same .labels-same, rows .labels-long, taken);
     } in
-    ((λ e. c .before .before .if1 .taken (sym e)), (there (loop .t) (omega arith), there _ (omega (arith, low, is))))
+    ((λ e. omega (arith, c .before .before .if1 .taken)), (there _ (omega (arith, low, is)), there _ (omega (arith, low, is))))
 
 loop-again : tie.Need-loop-again Inv-loop μ-loop
 loop-again c =
@@ -50,12 +47,6 @@ loop-again c =
           (λ v. rw (v .1, v .2) (gathering-own _ T _ _ (start .pre .0 .0) _ (loop .inv .1) taken (sym is ∙ v .0 .left)))
           (c .if1 .came),
     )
-
-same-length : tie.Need-same-length Inv-loop μ-loop
-same-length c = c .before .loop .inv .1 .rows .targets-same
-
-same-length-2 : tie.Need-same-length-2 Inv-loop μ-loop
-same-length-2 c = c .before .loop .inv .1 .rows .labels-same
 
 returns : tie.Need-returns Inv-loop μ-loop
 returns c =
@@ -73,7 +64,7 @@ gather-spec =
     (tie.spec
     Inv-loop
     μ-loop
-    loop-holds
+    (λ c. (omega arith, gathering-begins _ _))
     (λ c. search needs)
     (λ c. search needs)
     (λ c κs. search needs)
@@ -81,6 +72,6 @@ gather-spec =
     (λ c. search needs)
     (λ c. search needs)
     loop-again
-    same-length
-    same-length-2
+    (λ c. c .before .loop .inv .1 .rows .targets-same)
+    (λ c. c .before .loop .inv .1 .rows .labels-same)
     returns)

@@ -88,12 +88,6 @@ filter-of c =
 gather-requires : tie.Need-gather-requires
 gather-requires c κs = let can = c .before .before .before .before .before .before .before .before .before .before .before .before .before .pre in ((can .named, can .rows), no-edge _ _ _ _ _ _ _ can)
 
-array-share-prefix-order : tie.Need-array-share-prefix-order
-array-share-prefix-order c = order-room (c .before .before .before .before .before .before .before .before .before .before .before)
-
-slice-aggregate-colours-by : tie.Need-slice-aggregate-colours-by
-slice-aggregate-colours-by c = count-is (c .before .before .before .before .before .before .before .before .before .before .before .before)
-
 colours-by-requires : tie.Need-colours-by-requires
 colours-by-requires c κs =
     let b = c .before .before .before .before .before .before .before .before .before .before .before .before .before in
@@ -106,12 +100,6 @@ array-share-prefix-hues c =
 
 slice-aggregate-write : tie.Need-slice-aggregate-write
 slice-aggregate-write c = let b = c .before .before .before .before .before in count-is (numbered₁ b) ∙ hues-count b
-
-array-share-prefix-order-2 : tie.Need-array-share-prefix-order-2
-array-share-prefix-order-2 c = order-room (c .before .before .before .before .before .before .before .before .before .before .before .before .before .before .before .before .before .before .before .before .before)
-
-slice-aggregate-write-2 : tie.Need-slice-aggregate-write-2
-slice-aggregate-write-2 c = count-is (c .before .before .before .before .before .before .before .before .before .before .before .before .before .before .before .before .before .before .before .before .before .before)
 
 write-requires : tie.Need-write-requires
 write-requires c κs =
@@ -144,8 +132,8 @@ merged-spec =
     (λ c κs. search needs)
     gather-requires
     (λ c κs. search needs)
-    array-share-prefix-order
-    slice-aggregate-colours-by
+    (λ c. order-room (c .before .before .before .before .before .before .before .before .before .before .before))
+    (λ c. count-is (c .before .before .before .before .before .before .before .before .before .before .before .before))
     (λ c. search needs)
     colours-by-requires
     (λ c. search needs)
@@ -153,8 +141,8 @@ merged-spec =
     (λ c κs. search needs)
     array-share-prefix-hues
     slice-aggregate-write
-    array-share-prefix-order-2
-    slice-aggregate-write-2
+    (λ c. order-room (c .before .before .before .before .before .before .before .before .before .before .before .before .before .before .before .before .before .before .before .before .before))
+    (λ c. count-is (c .before .before .before .before .before .before .before .before .before .before .before .before .before .before .before .before .before .before .before .before .before .before))
     write-requires
     (λ c. search needs)
     (λ c. search needs)

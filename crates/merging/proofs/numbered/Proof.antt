@@ -27,9 +27,6 @@ low c =
     name-low (now (start .args .names)) (start .args .n) (start .pre .0) (c .before .before .before .loop .s)
     (omega (arith, c .before .before .loop-test .taken, c .before .before .before .loop .inv .0))
 
-loop-holds : tie.Need-loop-holds Inv-loop μ-loop
-loop-holds c = (omega arith, numbering-begins _ _ _ _)
-
 mul-list-2 : tie.Need-mul-list-2 Inv-loop μ-loop
 mul-list-2 c = omega (arith, low (c .before), c .wide .ensures)
 
@@ -68,7 +65,7 @@ numbered-spec =
     (tie.spec
     Inv-loop
     μ-loop
-    loop-holds
+    (λ c. (omega arith, numbering-begins _ _ _ _))
     (λ c. search needs)
     (λ c. search needs)
     (λ c. search needs)

@@ -89,9 +89,6 @@ push-requires c κs =
       rw (c .before .wide2 .ensures) (can .target _ _ _ in-range to),
     )
 
-loop-less : tie.Need-loop-less Inv-loop μ-loop
-loop-less c = c .without-lowest .ensures .0
-
 loop-again : tie.Need-loop-again Inv-loop μ-loop
 loop-again c =
     let push = c .before .before .before .push in
@@ -105,9 +102,6 @@ loop-again c =
       row-more _ _ _ _ _ _ _ _ _ (loop .inv .2) (only (c .before .before .before .before .before .before .before .before .before .before .before .before)) _ _ (low .0) (low .1) edge _ _ _ (push .ensures .0) (push .ensures .1) (edge-high (a .p) (start .pre .0 .usable))
           (λ j. c .without-lowest .ensures .1 _ j (low .1)),
     )
-
-same-length : tie.Need-same-length Inv-loop μ-loop
-same-length c = c .before .loop .inv .0
 
 returns : tie.Need-returns Inv-loop μ-loop
 returns c =
@@ -135,7 +129,7 @@ put-row-spec =
     (λ c κs. search needs)
     push-requires
     (λ c κs. search needs)
-    loop-less
+    (λ c. c .without-lowest .ensures .0)
     loop-again
-    same-length
+    (λ c. c .before .loop .inv .0)
     returns)

@@ -57,12 +57,6 @@ loop-again c =
           (put-behind _ _ _ _ _ _ _ _ _ (loop .inv .4) (put .ensures .0) (put .ensures .1 .0)),
     )
 
-finish-requires : tie.Need-finish-requires Inv-loop μ-loop
-finish-requires c κs = c .before .before .loop .inv .2
-
-same-length : tie.Need-same-length Inv-loop μ-loop
-same-length c = c .before .before .finish .kept .0 ∙ c .before .before .before .before .before .loop .inv .1
-
 returns : tie.Need-returns Inv-loop μ-loop
 returns c =
     let loop = c .before .before .before .before .before .loop in
@@ -83,6 +77,6 @@ put-rows-spec =
     add-k
     (λ c. search needs)
     loop-again
-    finish-requires
-    same-length
+    (λ c κs. c .before .before .loop .inv .2)
+    (λ c. c .before .before .finish .kept .0 ∙ c .before .before .before .before .before .loop .inv .1)
     returns)
