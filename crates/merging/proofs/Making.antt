@@ -1,25 +1,29 @@
 -- The filter that the code writes is the filter of the classes. Assumes nothing.
 use Prim.Native.Nat.{ℕ, zero, suc, _+_, _≤_, _<_, _^_}
 use mathlib.Core.Path.{_≡_, refl, sym, ap, ap₂, _∙_}
-use mathlib.Core.Bool.{Bool, _&&_}
+use mathlib.Core.Bool.{true, _&&_}
 use mathlib.Core.List.{List, [], _∷_, _++_}
 use mathlib.Core.Option.{Option, none, some}
 use native.Mathlib.Omega.{arith}
 use lib.Dec.{eqb}
-use lib.ListN.{length, take, drop, List·getD-append, length-append}
+use lib.ListN.{length, take, drop, List·getD-append}
 use lib.Seq.{take-append-seam}
-use Rattle.meaning.specs.Search.{least, count, tab, at}
+use Rattle.meaning.specs.Search.{least, tab, at}
 use Rattle.meaning.specs.SearchLaws.{at-tab, length-tab, tab-cong, count-max}
-use Rattle.meaning.specs.Classes.{named, classes, number}
-use Rattle.meaning.specs.ClassesLaws.{Named}
-use Rattle.meaning.specs.Traced.{In, number-lt, name-is}
-use Rattle.meaning.specs.Filter.{Edge, Filter}
+use Rattle.meaning.specs.Classes as Classes
+use Rattle.meaning.specs.Classes.{classes, number}
+use Rattle.meaning.specs.Traced.{opt, number-lt, name-is}
+use Rattle.meaning.specs.Filter.{Edge}
 use Rattle.meaning.specs.Reduced.{has, nameOf, mapped, class-edge, edge′, cell, row, listed}
+use Rattle.file.specs.declared.Profile.{Profile}
 use Rattle.file.specs.declared.Reading.{Reading}
+use Rattle.file.specs.Layout.{lengthOf}
 use Rattle.file.specs.Refusals.{laid}
-use Rattle.table.specs.Table.{look}
-use Rattle.merging.specs.Merged.{Whole, Within, Rows, Held, Listed, led, rowEdge, filterOf, mergedBy, Foldable}
-use Rattle.merging.proofs.Merging.{tab-all}
+use Rattle.file.proofs.Tests.{Written, write-written}
+use Rattle.table.specs.Table.{Table, look}
+use Rattle.storing.specs.Stored.{led, rowEdge, stored, Storable}
+use Rattle.merging.specs.Merged.{Gathered, mergedBy, Foldable}
+use Rattle.merging.proofs.Merging.{seat}
 
 -- the names of all classes, ascending
 abbrev pub ordered : ℕ → List ℕ → List ℕ
@@ -40,22 +44,32 @@ listed-cong f g zero m h = refl
 listed-cong f g (suc n) m h =
     ap₂ (λ (a b : List Edge). a ++ b) (listed-cong f g n m (λ k y l. h k y (omega arith))) (row-cong (f n) (g n) n m (λ y l. h n y (omega arith) l))
 
-module _ (T₀ colours names : List ℕ) (r : Reading) (answer list-room : ℕ) (can : Foldable T₀ colours names r answer list-room) where
+module _ (p : Profile) (T₀ : Table) (colours names : List ℕ) (r : Reading) (answer list-room : ℕ) (can : Foldable p T₀ colours names r answer list-room) where
   abbrev n : ℕ
   n = r .states
 
   abbrev P : List ℕ
   P = take n names
 
-  seat : (s : ℕ) → s < n → In n P s
-  seat s h = record { state = h; seat = omega (arith, can .whole .low s h) }
-
-  right : Named n P
-  right = record { low = λ s h l. can .whole .low s h; own = λ s h l. can .whole .own s h }
+  passed : Written p (mergedBy T₀ colours names r) true answer (lengthOf p (mergedBy T₀ colours names r) ∷ [])
+  passed = write-written p (mergedBy T₀ colours names r) true answer _ (can .answer-room)
 
   pub few-classes : classes n P ≤ 256
   unfolding classes
-  few-classes = omega (arith, can .few, count-max (named P) n)
+  few-classes = omega (arith, can .named .few, count-max (Classes.named P) n)
+
+  fit-classes : classes n P ≤ 2 ^ p .states
+  fit-classes = omega (arith, passed .writable .states-high, length-tab (classes n P) (λ k. at colours (nameOf n P k)))
+
+  -- no edge begins past the states
+  pub no-edge : (y : ℕ) → look T₀ n y ≡ none
+  no-edge y = opt (look T₀ n y) (λ e. e) (λ t e. absurd (omega (arith, can .within n y t e .0)))
+
+  pub numbers-laid : (list list₀ : List ℕ) → list ≡ laid (tab n (number P)) list₀ → (s : ℕ) → s < n → at list s ≡ number P s
+  numbers-laid list list₀ e s h =
+      ap (λ (l : List ℕ). at l s) e
+      ∙ List·getD-append (tab n (number P)) (drop (length (tab n (number P))) list₀) 0 s (omega (arith, length-tab n (number P)))
+      ∙ at-tab n (number P) s h
 
   module _ (order : List ℕ) (order-is : order ≡ ordered n P) where
     pub order-long : length order ≡ classes n P
@@ -68,32 +82,41 @@ module _ (T₀ colours names : List ℕ) (r : Reading) (answer list-room : ℕ) 
     below : (i : ℕ) → i < length order → at order i < n
     below i l = omega (arith, named-at i l, name-is n P i (omega (arith, order-long)) .0)
 
-    pub named-low : Rows order
-    named-low i l = omega (arith, below i l, can .few)
-
-    pub named-held : (T : List ℕ) → length T ≡ length T₀ → Held T order
-    named-held T same i l = omega (arith, below i l, can .table-long, same)
+    pub named-low : (i : ℕ) → i < length order → at order i < 256
+    named-low i l = omega (arith, below i l, can .named .few)
 
   -- What the steps before the writing have made: the classes numbered, the edges gathered, the colours of the classes.
-  pub record Ready (T order list hues : List ℕ) : Type 0 where
+  pub record Ready (T : Table) (order list hues : List ℕ) : Type 0 where
     pub order-is : order ≡ ordered n P
     pub numbers : (s : ℕ) → s < n → at list s ≡ number P s
     pub long : n ≤ length list
-    pub within : Within (look T) n (r .labels)
-    pub rows : (c y : ℕ) → c < n → at P c ≡ c → y < r .labels → look T c y ≡ look T₀ (least (λ s. eqb (at P s) c && has (look T₀ s y)) n) y
+    pub gathered : Gathered T₀ T n P
     pub hues-are : hues ≡ tab (length order) (λ i. at colours (at order i))
 
-  pub numbers-laid : (list list₀ : List ℕ) → list ≡ laid (tab n (number P)) list₀ → (s : ℕ) → s < n → at list s ≡ number P s
-  numbers-laid list list₀ e s h =
-      ap (λ (l : List ℕ). at l s) e
-      ∙ List·getD-append (tab n (number P)) (drop (length (tab n (number P))) list₀) 0 s (omega (arith, length-tab n (number P)))
-      ∙ at-tab n (number P) s h
+  module _ (T : Table) (order list hues : List ℕ) (ready : Ready T order list hues) where
+    -- the edge of a class in the table is that of its first member that has one
+    first-edge : (i y : ℕ) → i < length order → look T (at order i) y ≡ look T₀ (least (λ s. eqb (at P s) (nameOf n P i) && has (look T₀ s y)) n) y
+    first-edge i y h =
+        let is = name-is n P i (omega (arith, order-long order (ready .order-is))) in
+        ap (λ (s : ℕ). look T s y) (named-at order (ready .order-is) i h) ∙ ready .gathered .edges (nameOf n P i) y (is .0) (is .2)
 
-  module _ (T order list hues : List ℕ) (ready : Ready T order list hues) where
-    pub targets-listed : Listed T list (2 ^ 8)
-    targets-listed s y t e =
-        let h = ready .within s y t e .2 in
-        (omega (arith, ready .long), omega (arith, ready .numbers t h, number-lt n P right t (seat t h), few-classes))
+    inside : (i y t : ℕ) → i < length order → look T (at order i) y ≡ some t → (y < r .labels) × (t < n)
+    inside i y t h e = let w = can .within _ y t (sym (first-edge i y h) ∙ e) in (w .1, w .2)
+
+    pub can-store : Storable p T order list (r .labels)
+    can-store = record {
+      usable = can .usable;
+      states = omega (arith, order-long order (ready .order-is), fit-classes);
+      rows = λ i h. record {
+        targets-long = omega (arith, below order (ready .order-is) i h, can .rows .targets-long, ready .gathered .rows .targets-same);
+        labels-long = omega (arith, below order (ready .order-is) i h, can .rows .labels-long, ready .gathered .rows .labels-same);
+      };
+      label = λ i y t h e. inside i y t h e .0;
+      listed = λ i y t h e. omega (arith, inside i y t h e .1, ready .long);
+      target = λ i y t h e.
+          let l = inside i y t h e .1 in
+          omega (arith, ready .numbers t l, number-lt n P (can .named .right) t (seat names n (can .named) t l), fit-classes);
+    }
 
     pub hues-long : length order ≡ length hues
     hues-long = sym (ap length (ready .hues-are) ∙ length-tab (length order) _)
@@ -106,20 +129,14 @@ module _ (T₀ colours names : List ℕ) (r : Reading) (answer list-room : ℕ) 
 
     same-edge : (i y : ℕ) → i < length order → y < r .labels → rowEdge T order list i y ≡ edge′ (look T₀) n P i y
     unfolding edge′ class-edge
-    same-edge i y h l =
-        let is = name-is n P i (omega (arith, order-long order (ready .order-is))) in
-        let c = nameOf n P i in
-        let found = least (λ s. eqb (at P s) c && has (look T₀ s y)) n in
-        ap (λ (s : ℕ). led list (look T s y)) (named-at order (ready .order-is) i h)
-        ∙ ap (led list) (ready .rows c y (is .0) (is .2) l)
-        ∙ led-mapped (look T₀ found y) (λ t e. can .within found y t e .2)
+    same-edge i y h l = ap (led list) (first-edge i y h) ∙ led-mapped _ (λ t e. can .within _ y t e .2)
 
-    pub filter-made : filterOf hues (r .labels) (at list (r .start)) (rowEdge T order list) (length order) ≡ mergedBy T₀ colours names r
+    pub filter-made : stored T order list hues (r .labels) (at list (r .start)) ≡ mergedBy T₀ colours names r
     filter-made =
         let K = classes n P in
-        let hues-of : tab (length order) (at hues) ≡ tab K (λ i. at colours (nameOf n P i)) =
-        ap (λ (i : ℕ). tab i (at hues)) hues-long ∙ tab-all hues ∙ ready .hues-are
-        ∙ tab-cong (length order) _ _ (λ i h. ap (at colours) (named-at order (ready .order-is) i h)) ∙ ap (λ (i : ℕ). tab i (λ j. at colours (nameOf n P j))) (order-long order (ready .order-is)) in
+        let long = order-long order (ready .order-is) in
+        let hues-of : hues ≡ tab K (λ i. at colours (nameOf n P i)) =
+        ready .hues-are ∙ tab-cong (length order) _ _ (λ i h. ap (at colours) (named-at order (ready .order-is) i h)) ∙ ap (λ (i : ℕ). tab i (λ j. at colours (nameOf n P j))) long in
         let edges-of : listed (rowEdge T order list) (length order) (r .labels) ≡ listed (edge′ (look T₀) n P) K (r .labels) =
-        listed-cong _ _ (length order) (r .labels) same-edge ∙ ap (λ (i : ℕ). listed (edge′ (look T₀) n P) i (r .labels)) (order-long order (ready .order-is)) in
+        listed-cong _ _ (length order) (r .labels) same-edge ∙ ap (λ (i : ℕ). listed (edge′ (look T₀) n P) i (r .labels)) long in
         λ i. record { colours = hues-of i; labels = r .labels; start = ready .numbers (r .start) (can .begins) i; edges = edges-of i }

@@ -1,68 +1,51 @@
--- The words of the reduced filter as the code has them: rows of the table, numbers and names in lists that may be longer than there
--- are classes. Assumes nothing.
-use Prim.Native.Nat.{ℕ, _+_, _*_, _≤_, _<_}
+-- The filter of classes as the code makes it, from a table and a name for each state. Assumes nothing.
+use Prim.Native.Nat.{ℕ, _≤_, _<_}
 use mathlib.Core.Path.{_≡_}
-use mathlib.Core.Bool.{true}
-use mathlib.Core.List.{List, [], _∷_}
-use mathlib.Core.Option.{Option, none, some}
+use mathlib.Core.Bool.{_&&_}
+use mathlib.Core.List.{List}
+use mathlib.Core.Option.{Option, some}
+use lib.Dec.{eqb}
 use lib.ListN.{length, take}
-use Rattle.meaning.specs.Search.{tab, at}
+use Rattle.meaning.specs.Search.{least, at}
+use Rattle.meaning.specs.ClassesLaws.{Named}
 use Rattle.meaning.specs.Filter.{Filter}
-use Rattle.meaning.specs.Reduced.{listed, mergedOver}
+use Rattle.meaning.specs.Reduced.{has, mergedOver}
+use Rattle.file.specs.declared.Profile.{Profile}
 use Rattle.file.specs.declared.Reading.{Reading}
-use Rattle.file.specs.Layout.{large, lengthOf}
-use Rattle.file.specs.Answers.{accepted}
-use Rattle.file.specs.Refusals.{writeOf}
-use Rattle.table.specs.Table.{look}
+use Rattle.file.specs.Code.{Usable}
+use Rattle.table.specs.Table.{Table, look, Rows, SameRows}
+use Rattle.storing.specs.Stored.{Packable}
 
--- Each of the n states is in a class, and a class is named by its smallest state.
-pub record Whole (n : ℕ) (P : List ℕ) : Type 0 where
-  pub low : (s : ℕ) → s < n → at P s ≤ s
-  pub own : (s : ℕ) → s < n → at P (at P s) ≡ at P s
+-- The class names of n states in an array: right, and each state is in a class.
+pub record Names (n : ℕ) (names : List ℕ) : Type 0 where
+  pub few : n ≤ 256
+  pub long : length names ≡ 256
+  pub right : Named n (take n names)
+  pub all-named : (s : ℕ) → s < n → at (take n names) s < n
 
 -- Edges begin and end at one of n states, and their labels are below m.
 abbrev pub Within : (ℕ → ℕ → Option ℕ) → ℕ → ℕ → Type 0
 Within next n m = (s y t : ℕ) → next s y ≡ some t → (s < n) × (y < m) × (t < n)
 
--- The names of classes are below 256, as all states are.
-abbrev pub Rows : List ℕ → Type 0
-Rows names = (i : ℕ) → i < length names → at names i < 256
-
--- The table holds the rows of classes by their names.
-abbrev pub Held : List ℕ → List ℕ → Type 0
-Held table names = (i : ℕ) → i < length names → at names i * 64 + 64 ≤ length table
-
--- Each target of the table's edges has a number in the list, below a limit.
-abbrev pub Listed : List ℕ → List ℕ → ℕ → Type 0
-Listed table list limit = (s y t : ℕ) → look table s y ≡ some t → (t < length list) × (at list t < limit)
-
--- An edge led to the number of its target.
-unfoldable pub led : List ℕ → Option ℕ → Option ℕ
-led numbers none = none
-led numbers (some t) = some (at numbers t)
-
--- The edge of class k: its row of the table is that of the state that names it.
-abbrev pub rowEdge : List ℕ → List ℕ → List ℕ → ℕ → ℕ → Option ℕ
-rowEdge table order numbers k y = led numbers (look table (at order k) y)
-
--- The filter of k classes with these colours and edges.
-abbrev pub filterOf : List ℕ → ℕ → ℕ → (ℕ → ℕ → Option ℕ) → ℕ → Filter
-filterOf hues m start next k = record { colours = tab k (at hues); labels = m; start = start; edges = listed next k m }
+-- What gathering leaves: the state that names a class has at each label the edge of the first member that has one.
+pub record Gathered (T T′ : Table) (n : ℕ) (P : List ℕ) : Type 0 where
+  pub edges : (c y : ℕ) → c < n → at P c ≡ c →
+      look T′ c y ≡ look T (least (λ s. eqb (at P s) c && has (look T s y)) n) y
+  pub rows : SameRows T T′
 
 -- The filter of the classes of a reading, by its table, its colours and the names of its states.
-abbrev pub mergedBy : List ℕ → List ℕ → List ℕ → Reading → Filter
-mergedBy table colours names r = mergedOver (look table) (at colours) (r .states) (r .labels) (r .start) (take (r .states) names)
+abbrev pub mergedBy : Table → List ℕ → List ℕ → Reading → Filter
+mergedBy T colours names r =
+    mergedOver (look T) (at colours) (r .states) (r .labels) (r .start) (take (r .states) names)
 
--- Table, colours and names fit a reading, and the rooms hold what is written. The edges are no list of bytes, so that pack's test of
--- whole edges is passed.
-pub record Foldable (table colours names : List ℕ) (r : Reading) (answer list : ℕ) : Type 0 where
-  pub few : r .states ≤ 256
+-- Table, colours and names fit a reading, and the rooms hold what is written.
+pub record Foldable (p : Profile) (T : Table) (colours names : List ℕ) (r : Reading) (answer list : ℕ) : Type 0 where
+  pub usable : Usable p
   pub labels : r .labels ≤ 64
   pub begins : r .start < r .states
-  pub table-long : r .states * 64 ≤ length table
+  pub rows : Rows T (r .states)
+  pub within : Within (look T) (r .states) (r .labels)
   pub colours-long : length colours ≡ 256
-  pub names-long : length names ≡ 256
-  pub within : Within (look table) (r .states) (r .labels)
-  pub whole : Whole (r .states) (take (r .states) names)
+  pub named : Names (r .states) names
   pub list-room : r .states ≤ list
-  pub answer-room : writeOf large (mergedBy table colours names r) true answer ≡ accepted (lengthOf large (mergedBy table colours names r) ∷ [])
+  pub answer-room : Packable p (mergedBy T colours names r) answer

@@ -8,7 +8,7 @@ use borrow.Author.Needs.{needs}
 use denote.Ref.{now}
 use lib.ListN.{length, drop, length-set}
 use Rattle.meaning.specs.Search.{tab, at}
-use Rattle.merging.proofs.Merging.{stored, stored-all}
+use Rattle.merging.proofs.Merging.{laid-more, laid-all}
 use Rattle.merging.proofs.colours_by.Statement.{statement}
 use Rattle.merging.proofs.colours_by.Tie as tie
 
@@ -22,28 +22,10 @@ loop-holds : tie.Need-loop-holds Inv-loop μ-loop
 unfolding tab
 loop-holds c = (omega arith, refl, refl)
 
-mul-wide : tie.Need-mul-wide Inv-loop μ-loop
-mul-wide c = search needs
-
-shared-slice-read-wide : tie.Need-shared-slice-read-wide Inv-loop μ-loop
-shared-slice-read-wide c = search needs
-
-wide-requires : tie.Need-wide-requires Inv-loop μ-loop
-wide-requires c κs = search needs
-
 element-copy-out-hues : tie.Need-element-copy-out-hues Inv-loop μ-loop
 element-copy-out-hues c =
     let in-loop = c .before .before in
-    omega (arith, c .wide .ensures, in-loop .before .before .before .before .pre .2 (in-loop .before .loop .k) (in-loop .loop-test .taken))
-
-slice-write-hues : tie.Need-slice-write-hues Inv-loop μ-loop
-slice-write-hues c = search needs
-
-add-k : tie.Need-add-k Inv-loop μ-loop
-add-k c = search needs
-
-loop-less : tie.Need-loop-less Inv-loop μ-loop
-loop-less c = search needs
+    omega (arith, c .wide .ensures, in-loop .before .before .before .before .pre .1 (in-loop .before .loop .k) (in-loop .loop-test .taken))
 
 loop-again : tie.Need-loop-again Inv-loop μ-loop
 loop-again c =
@@ -54,18 +36,15 @@ loop-again c =
     let hue : ℕ → ℕ = λ i. at (now (a .colours)) (at (now (a .order)) i) in (
       omega arith,
       length-set (loop .hues) (loop .k) _ ∙ loop .inv .1,
-      stored hue (now (a .hues)) (loop .hues) (loop .k) _ (omega (arith, in-loop .loop-test .taken, start .pre .0)) (loop .inv .2) (ap (at (now (a .colours))) (c .before .wide .ensures)),
+      laid-more hue (now (a .hues)) (loop .hues) (loop .k) _ (omega (arith, in-loop .loop-test .taken, start .pre .0 .0)) (loop .inv .2) (ap (at (now (a .colours))) (c .before .wide .ensures)),
     )
-
-same-length : tie.Need-same-length Inv-loop μ-loop
-same-length c = c .before .loop .inv .1
 
 returns : tie.Need-returns Inv-loop μ-loop
 returns c =
     let loop = c .before .loop in
     let a = c .before .before .before .before .args in
     let hue : ℕ → ℕ = λ i. at (now (a .colours)) (at (now (a .order)) i) in
-    stored-all hue (now (a .hues)) (loop .hues) (loop .k) (length (now (a .order))) (loop .inv .2) (le-antisymm (loop .inv .0) (c .loop-test .left))
+    laid-all hue (now (a .hues)) (loop .hues) (loop .k) (length (now (a .order))) (loop .inv .2) (le-antisymm (loop .inv .0) (c .loop-test .left))
 
 pub colours-by-spec : {M : Type 1} → statement M
 colours-by-spec =
@@ -74,13 +53,13 @@ colours-by-spec =
     Inv-loop
     μ-loop
     loop-holds
-    mul-wide
-    shared-slice-read-wide
-    wide-requires
+    (λ c. search needs)
+    (λ c. search needs)
+    (λ c κs. search needs)
     element-copy-out-hues
-    slice-write-hues
-    add-k
-    loop-less
+    (λ c. search needs)
+    (λ c. search needs)
+    (λ c. search needs)
     loop-again
-    same-length
+    (λ c. c .before .loop .inv .1)
     returns)

@@ -1,83 +1,62 @@
 -- `merging::gather` meets its contract. Assumes nothing.
-use mathlib.Core.Path.{_≡_, refl, sym, ap, _∙_, subst}
+use mathlib.Core.Path.{sym, _∙_, subst}
 use mathlib.Core.Logic.{⊎-elim}
-use Prim.Native.Nat.{ℕ, _-_, _≤_}
+use Prim.Native.Nat.{ℕ, _+_, _-_, _≤_}
 use native.Mathlib.Nat.{le-antisymm}
 use native.Mathlib.Omega.{arith}
 use borrow.Author.Needs.{needs}
 use denote.Ref.{now}
-use lib.ListN.{length, take}
-use Rattle.table.specs.Table.{look, given}
-use Rattle.merging.specs.Merged.{Whole}
-use Rattle.merging.proofs.Merging.{Gathered, gathered-begins, gathered-own, gathered-given, gathered-ends, whole-low}
+use lib.ListN.{take}
+use Rattle.table.specs.Table.{table, Rows, Gave}
+use Rattle.merging.proofs.Merging.{name-low, Gathering, gathering-begins, gathering-own, gathering-given, gathering-ends}
 use Rattle.merging.proofs.gather.Statement.{statement}
 use Rattle.merging.proofs.gather.Tie as tie
 
 abbrev Inv-loop : tie.InvT-loop
-Inv-loop table₀ names m n t₀ table t = (t ≤ n) × (length table ≡ length table₀) × ((w : Whole n (take n names)) → Gathered table₀ names n m w table t)
+Inv-loop targets₀ labels₀ names n t₀ targets labels t = (t ≤ n) × Gathering (table targets₀ labels₀) (take n names) (table targets labels) t
 
 abbrev μ-loop : tie.MeasureT-loop
-μ-loop table₀ names m n t₀ table t = n - t
-
-loop-holds : tie.Need-loop-holds Inv-loop μ-loop
-loop-holds c = (omega arith, refl, (λ w. gathered-begins _ _ _ _ w (c .before .pre .5)))
-
-mul-wide : tie.Need-mul-wide Inv-loop μ-loop
-mul-wide c = search needs
-
-element-copy-out-wide : tie.Need-element-copy-out-wide Inv-loop μ-loop
-element-copy-out-wide c = search needs
-
-wide-requires : tie.Need-wide-requires Inv-loop μ-loop
-wide-requires c κs = search needs
+μ-loop targets₀ labels₀ names n t₀ targets labels t = n - t
 
 give-requires : tie.Need-give-requires Inv-loop μ-loop
 give-requires c κs =
-    let start = c .before .before .before .before .before .before .before in
-    let low = whole-low (now (start .args .names)) (start .args .n) (start .pre .4) (c .before .before .before .before .before .loop .t) (c .before .before .before .before .loop-test .taken) in
-    let long = c .before .before .before .before .before .loop .inv .1 in
-    let is = c .before .before .wide .ensures in (
-      omega (arith, start .pre .1),
-      omega (arith, low, is, start .pre .1),
-      omega (arith, start .pre .0),
-      omega (arith, long, start .pre .2),
-      omega (arith, low, is, long, start .pre .2),
-    )
-
-add-t : tie.Need-add-t Inv-loop μ-loop
-add-t c = search needs
-
-loop-less : tie.Need-loop-less Inv-loop μ-loop
-loop-less c = search needs
+    let loop = c .before .before .before .before .before .before .loop in
+    let start = c .before .before .before .before .before .before .before .before .before in
+    let same = loop .inv .1 .rows in
+    let rows = start .pre .0 .1 in
+    let taken = c .before .before .before .before .before .loop-test .taken in
+    let low = name-low (now (start .args .names)) (start .args .n) (start .pre .0 .0) (loop .t) taken in
+    let is = c .before .before .before .wide .ensures in
+    let there : (s : ℕ) → s ≤ loop .t → Rows (table (loop .targets) (loop .labels)) (s + 1) = λ s h. record {
+      targets-long = omega (arith, same .targets-same, rows .targets-long, taken);
+      labels-long = omega (arith, same .labels-same, rows .labels-long, taken);
+    } in
+    ((λ e. omega (arith, c .before .before .if1 .taken)), (there _ (omega (arith, low, is)), there _ (omega (arith, low, is))))
 
 loop-again : tie.Need-loop-again Inv-loop μ-loop
 loop-again c =
     let loop = c .before .before .before .before .loop in
-    let start = c .before .before .before .before .before .before in
+    let start = c .before .before .before .before .before .before .before in
     let taken = c .before .before .before .loop-test .taken in
-    let is = c .before .wide .ensures in (
+    let is = c .before .wide .ensures in
+    let T = table (loop .targets) (loop .labels) in (
       omega arith,
-      ⊎-elim (λ v. ap length (v .5) ∙ v .2 .ensures .1 ∙ loop .inv .1) (λ v. ap length (v .1) ∙ loop .inv .1) (c .if1 .came),
-      (λ w. ⊎-elim
-          (λ v. rw (v .5) (gathered-given _ _ _ _ w _ _ (loop .inv .2 w) taken _ (λ e. v .0 .taken (is ∙ e))
-          (v .2 .ensures .0 ∙ ap (λ (d : ℕ). given (look (loop .table)) (loop .t) d (start .args .m)) is)))
-          (λ v. rw (v .1) (gathered-own _ _ _ _ w _ _ (loop .inv .2 w) taken (sym is ∙ v .0 .left)))
-          (c .if1 .came)),
+      ⊎-elim
+          (λ v. rw (v .8, v .9)
+          (gathering-given _ T _ _ (start .pre .0 .0) _ (loop .inv .1) taken _ (λ e. v .0 .taken (is ∙ e)) (subst (Gave T _ (loop .t)) is (v .3 .ensures))))
+          (λ v. rw (v .1, v .2) (gathering-own _ T _ _ (start .pre .0 .0) _ (loop .inv .1) taken (sym is ∙ v .0 .left)))
+          (c .if1 .came),
     )
-
-same-length : tie.Need-same-length Inv-loop μ-loop
-same-length c = c .before .loop .inv .1
 
 returns : tie.Need-returns Inv-loop μ-loop
 returns c =
     let loop = c .before .loop in
-    let start = c .before .before .before in
+    let start = c .before .before .before .before in
     let a = start .args in
-    let names = now (a .names) in
-    let w = start .pre .4 in
-    let all : loop .t ≡ a .n = le-antisymm (loop .inv .0) (c .loop-test .left) in
-    let r : Gathered (now (a .table)) names (a .n) (a .m) w (loop .table) (a .n) = subst (Gathered (now (a .table)) names (a .n) (a .m) w (loop .table)) all (loop .inv .2 w) in
-    (loop .inv .1, r .within, λ k y h o l. gathered-ends (now (a .table)) names (a .n) (a .m) w (loop .table) (start .pre .5) r k y h o l)
+    let T₀ = table (now (a .targets)) (now (a .labels)) in
+    let T = table (loop .targets) (loop .labels) in
+    let P = take (a .n) (now (a .names)) in
+    gathering-ends T₀ T P (a .n) (start .pre .1) (subst (Gathering T₀ P T) (le-antisymm (loop .inv .0) (c .loop-test .left)) (loop .inv .1))
 
 pub gather-spec : {M : Type 1} → statement M
 gather-spec =
@@ -85,13 +64,14 @@ gather-spec =
     (tie.spec
     Inv-loop
     μ-loop
-    loop-holds
-    mul-wide
-    element-copy-out-wide
-    wide-requires
+    (λ c. (omega arith, gathering-begins _ _))
+    (λ c. search needs)
+    (λ c. search needs)
+    (λ c κs. search needs)
     give-requires
-    add-t
-    loop-less
+    (λ c. search needs)
+    (λ c. search needs)
     loop-again
-    same-length
+    (λ c. c .before .loop .inv .1 .rows .targets-same)
+    (λ c. c .before .loop .inv .1 .rows .labels-same)
     returns)

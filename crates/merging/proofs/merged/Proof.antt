@@ -1,7 +1,6 @@
 -- `merging::merged` meets its contract. Assumes nothing.
-use mathlib.Core.Path.{_≡_, sym, ap, ap₂, _∙_, subst}
-use mathlib.Core.List.{List, _∷_, []}
-use mathlib.Core.Bool.{true}
+use mathlib.Core.Path.{_≡_, sym, ap, _∙_, subst}
+use mathlib.Core.List.{List}
 use Prim.Native.Nat.{ℕ, _≤_}
 use native.Mathlib.Omega.{arith}
 use borrow.Author.Needs.{needs}
@@ -9,18 +8,23 @@ use denote.Ref.{now}
 use lib.ListN.{length, take}
 use Rattle.meaning.specs.SearchLaws.{length-tab}
 use Rattle.meaning.specs.Filter.{Filter}
-use Rattle.file.specs.declared.Profile.{Profile}
-use Rattle.file.specs.Layout.{large, lengthOf, written}
-use Rattle.file.specs.Answers.{accepted}
-use Rattle.file.specs.Refusals.{laid, writeOf}
-use Rattle.file.proofs.Bounds.{large-usable}
-use Rattle.merging.specs.Merged.{Rows, rowEdge, filterOf, mergedBy}
-use Rattle.merging.proofs.Making.{ordered, take-laid, few-classes, order-long, named-low, named-held, Ready, numbers-laid, targets-listed, hues-long, filter-made}
+use Rattle.file.specs.Layout.{lengthOf, written}
+use Rattle.file.specs.Refusals.{laid}
+use Rattle.table.specs.Table.{Table, table}
+use Rattle.storing.specs.Stored.{stored, Packable}
+use Rattle.merging.specs.Merged.{mergedBy}
+use Rattle.merging.proofs.Making.{ordered, take-laid, few-classes, no-edge, order-long, named-low, Ready, numbers-laid, can-store, hues-long, filter-made}
 use Rattle.merging.proofs.merged.Statement.{statement}
 use Rattle.merging.proofs.merged.Tie as tie
 
+abbrev T₀ : tie.Start → Table
+T₀ c = table (now (c .args .targets)) (now (c .args .labels))
+
+abbrev made : tie.Start → Filter
+made c = mergedBy (T₀ c) (now (c .args .colours)) (now (c .args .names)) (c .args .reading)
+
 abbrev start₁ : tie.After-numbered → tie.Start
-start₁ c = c .before .before .before .before .before .before .before
+start₁ c = c .before .before .before .before .before .before .before .before
 
 abbrev order₁ : tie.After-numbered → List ℕ
 order₁ c = take (c .numbered .result) (c .numbered .last .1 .1 .1 .0)
@@ -31,198 +35,117 @@ order-is c =
     take-laid _ _ _ _ (made .1) (made .0 ∙ sym (length-tab _ _))
 
 count-is : (c : tie.After-numbered) → c .numbered .result ≡ length (order₁ c)
-count-is c =
-    let start = start₁ c in
-    let a = start .args in
-    c .numbered .ensures .1 .0 ∙ sym (order-long (now (a .table)) (now (a .colours)) (now (a .names)) (a .reading) _ _ (start .pre) (order₁ c) (order-is c))
+count-is c = c .numbered .ensures .1 .0 ∙ sym (order-long _ _ _ _ _ _ _ (start₁ c .pre) (order₁ c) (order-is c))
 
 few : (c : tie.After-numbered) → c .numbered .result ≤ 256
-few c =
-    let start = start₁ c in
-    let a = start .args in
-    omega (arith, c .numbered .ensures .1 .0, few-classes (now (a .table)) (now (a .colours)) (now (a .names)) (a .reading) _ _ (start .pre))
+few c = omega (arith, c .numbered .ensures .1 .0, few-classes _ _ _ _ _ _ _ (start₁ c .pre))
 
 order-room : (c : tie.After-numbered) → c .numbered .result ≤ length (c .numbered .last .1 .1 .1 .0)
-order-room c = omega (arith, few c, c .numbered .kept .1 .1 .1 .0, c .before .before .before .nameless .ensures)
-
-low : (c : tie.After-numbered) → Rows (order₁ c)
-low c =
-    let start = start₁ c in
-    let a = start .args in
-    named-low (now (a .table)) (now (a .colours)) (now (a .names)) (a .reading) _ _ (start .pre) (order₁ c) (order-is c)
+order-room c = omega (arith, few c, c .numbered .kept .1 .1 .1 .0, c .before .before .before .fresh .ensures .1)
 
 abbrev numbered₁ : tie.After-colours-by → tie.After-numbered
-numbered₁ c = c .before .before .before .before .before .before .before .before .before .before .before
-
-abbrev count₁ : tie.After-colours-by → ℕ
-count₁ c = numbered₁ c .numbered .result
+numbered₁ c = c .before .before .before .before .before .before .before .before .before .before .before .before .before .before
 
 abbrev list₁ : tie.After-colours-by → List ℕ
 list₁ c = numbered₁ c .numbered .last .1 .1 .0
 
 abbrev gather₁ : tie.After-colours-by → tie.After-gather
-gather₁ c = c .before .before .before .before .before .before
+gather₁ c = c .before .before .before .before .before .before .before .before
 
-abbrev table₁ : tie.After-colours-by → List ℕ
-table₁ c = gather₁ c .gather .last .0
+abbrev table₁ : tie.After-colours-by → Table
+table₁ c = table (gather₁ c .gather .last .0) (gather₁ c .gather .last .1 .0)
 
 abbrev hues₁ : tie.After-colours-by → List ℕ
-hues₁ c = take (count₁ c) (c .colours-by .last .1 .1 .0)
+hues₁ c = take (numbered₁ c .numbered .result) (c .colours-by .last .1 .1 .0)
 
-ready : (c : tie.After-colours-by) →
-    let start = start₁ (numbered₁ c) in
-    let a = start .args in
-    Ready (now (a .table)) (now (a .colours)) (now (a .names)) (a .reading) (length (now (a .answer))) (length (now (a .list))) (start .pre) (table₁ c) (order₁ (numbered₁ c)) (list₁ c) (hues₁ c)
+ready : (c : tie.After-colours-by) → Ready _ _ _ _ _ _ _ (start₁ (numbered₁ c) .pre) (table₁ c) (order₁ (numbered₁ c)) (list₁ c) (hues₁ c)
 ready c =
     let start = start₁ (numbered₁ c) in
-    let a = start .args in
     let made = numbered₁ c .numbered in
-    let gathered = gather₁ c .gather .ensures in
     record {
       order-is = order-is (numbered₁ c);
-      numbers = numbers-laid (now (a .table)) (now (a .colours)) (now (a .names)) (a .reading) _ _ (start .pre) (list₁ c) (now (a .list)) (made .ensures .0);
+      numbers = numbers-laid _ _ _ _ _ _ _ (start .pre) (list₁ c) (now (start .args .list)) (made .ensures .0);
       long = omega (arith, made .kept .1 .1 .0, start .pre .list-room);
-      within = gathered .1;
-      rows = gathered .2;
+      gathered = gather₁ c .gather .ensures;
       hues-are = take-laid _ _ _ _ (c .colours-by .ensures) (count-is (numbered₁ c) ∙ sym (length-tab _ _));
     }
 
 hues-count : (c : tie.After-colours-by) → length (order₁ (numbered₁ c)) ≡ length (hues₁ c)
-hues-count c =
-    let start = start₁ (numbered₁ c) in
-    let a = start .args in
-    hues-long (now (a .table)) (now (a .colours)) (now (a .names)) (a .reading) _ _ (start .pre) (table₁ c) (order₁ (numbered₁ c)) (list₁ c) (hues₁ c) (ready c)
+hues-count c = hues-long _ _ _ _ _ _ _ (start₁ (numbered₁ c) .pre) (table₁ c) (order₁ (numbered₁ c)) (list₁ c) (hues₁ c) (ready c)
 
 -- what is written is the filter of the classes
 filter-of : (c : tie.After-wide) →
     let b = c .before .before .before in
-    let order = order₁ (numbered₁ b) in
-    let a = start₁ (numbered₁ b) .args in
-    filterOf (hues₁ b) (a .reading .labels) (c .wide .result) (rowEdge (table₁ b) order (list₁ b)) (length order) ≡ mergedBy (now (a .table)) (now (a .colours)) (now (a .names)) (a .reading)
+    let start = start₁ (numbered₁ b) in
+    stored (table₁ b) (order₁ (numbered₁ b)) (list₁ b) (hues₁ b) (start .args .reading .labels) (c .wide .result) ≡ made start
 filter-of c =
     let b = c .before .before .before in
     let order = order₁ (numbered₁ b) in
     let start = start₁ (numbered₁ b) in
-    let a = start .args in
-    ap (λ (s : ℕ). filterOf (hues₁ b) (a .reading .labels) s (rowEdge (table₁ b) order (list₁ b)) (length order)) (c .wide .ensures)
-    ∙ filter-made (now (a .table)) (now (a .colours)) (now (a .names)) (a .reading) _ _ (start .pre) (table₁ b) order (list₁ b) (hues₁ b) (ready b)
-
-nameless-requires : tie.Need-nameless-requires
-nameless-requires c κs = search needs
-
-slice-aggregate-numbered : tie.Need-slice-aggregate-numbered
-slice-aggregate-numbered c = search needs
-
-numbered-requires : tie.Need-numbered-requires
-numbered-requires c κs = search needs
+    ap (stored (table₁ b) order (list₁ b) (hues₁ b) (start .args .reading .labels)) (c .wide .ensures)
+    ∙ filter-made _ _ _ _ _ _ _ (start .pre) (table₁ b) order (list₁ b) (hues₁ b) (ready b)
 
 gather-requires : tie.Need-gather-requires
-gather-requires c κs = search needs
-
-colourless-requires : tie.Need-colourless-requires
-colourless-requires c κs = search needs
-
-array-share-prefix-order : tie.Need-array-share-prefix-order
-array-share-prefix-order c = order-room (c .before .before .before .before .before .before .before .before)
-
-slice-aggregate-colours-by : tie.Need-slice-aggregate-colours-by
-slice-aggregate-colours-by c = count-is (c .before .before .before .before .before .before .before .before .before)
-
-slice-aggregate-colours-by-2 : tie.Need-slice-aggregate-colours-by-2
-slice-aggregate-colours-by-2 c = search needs
+gather-requires c κs = let can = c .before .before .before .before .before .before .before .before .before .before .before .before .before .pre in ((can .named, can .rows), no-edge _ _ _ _ _ _ _ can)
 
 colours-by-requires : tie.Need-colours-by-requires
 colours-by-requires c κs =
-    let b = c .before .before .before .before .before .before .before .before .before .before in
-    (omega (arith, few b, count-is b, c .before .before .colourless .ensures), start₁ b .pre .colours-long, low b)
-
-mul-wide : tie.Need-mul-wide
-mul-wide c = search needs
-
-slice-read-wide : tie.Need-slice-read-wide
-slice-read-wide c = search needs
-
-wide-requires : tie.Need-wide-requires
-wide-requires c κs = search needs
-
-large-requires : tie.Need-large-requires
-large-requires c κs = search needs
+    let b = c .before .before .before .before .before .before .before .before .before .before .before .before .before in
+    ((omega (arith, few b, count-is b, c .before .before .zero-bytes .ensures .1), start₁ b .pre .colours-long), named-low _ _ _ _ _ _ _ (start₁ b .pre) (order₁ b) (order-is b))
 
 array-share-prefix-hues : tie.Need-array-share-prefix-hues
 array-share-prefix-hues c =
-    let b = c .before .before .before .before .before in
-    omega (arith, few (numbered₁ b), b .colours-by .kept .1 .1 .0, b .before .before .before .colourless .ensures)
+    let b = c .before .before .before .before in
+    omega (arith, few (numbered₁ b), b .colours-by .kept .1 .1 .0, b .before .before .before .zero-bytes .ensures .1)
 
 slice-aggregate-write : tie.Need-slice-aggregate-write
-slice-aggregate-write c = let b = c .before .before .before .before .before .before in count-is (numbered₁ b) ∙ hues-count b
-
-array-share-prefix-order-2 : tie.Need-array-share-prefix-order-2
-array-share-prefix-order-2 c = order-room (numbered₁ (c .before .before .before .before .before .before .before))
-
-slice-aggregate-write-2 : tie.Need-slice-aggregate-write-2
-slice-aggregate-write-2 c = count-is (numbered₁ (c .before .before .before .before .before .before .before .before))
+slice-aggregate-write c = let b = c .before .before .before .before .before in count-is (numbered₁ b) ∙ hues-count b
 
 write-requires : tie.Need-write-requires
 write-requires c κs =
     let b = c .before .before .before .before .before .before .before .before .before in
-    let order = order₁ (numbered₁ b) in
     let start = start₁ (numbered₁ b) in
     let a = start .args in
-    let is = c .before .before .before .before .before .large .ensures in
-    let filter = filter-of (c .before .before .before .before .before .before) in (
-      rw is large-usable,
-      hues-count b,
-      start .pre .labels,
-      low (numbered₁ b),
-      rw is (targets-listed (now (a .table)) (now (a .colours)) (now (a .names)) (a .reading) _ _ (start .pre) (table₁ b) order (list₁ b) (hues₁ b) (ready b)),
-      rw is (subst (λ (F : Filter). writeOf large F true (length (now (a .answer))) ≡ accepted (lengthOf large F ∷ [])) (sym filter) (start .pre .answer-room)),
-      named-held (now (a .table)) (now (a .colours)) (now (a .names)) (a .reading) _ _ (start .pre) order (order-is (numbered₁ b)) (table₁ b) (gather₁ b .gather .ensures .0),
-    )
-
-same-length : tie.Need-same-length
-same-length c = search needs
-
-same-length-2 : tie.Need-same-length-2
-same-length-2 c = search needs
-
-same-length-3 : tie.Need-same-length-3
-same-length-3 c = search needs
+    record {
+      rows = can-store _ _ _ _ _ _ _ (start .pre) (table₁ b) (order₁ (numbered₁ b)) (list₁ b) (hues₁ b) (ready b);
+      labels = start .pre .labels;
+      coloured = hues-count b;
+      packable = subst (λ (F : Filter). Packable (a .p) F (length (now (a .answer)))) (sym (filter-of (c .before .before .before .before .before .before))) (start .pre .answer-room);
+    }
 
 returns : tie.Need-returns
 returns c =
     let write = c .before .before .write in
-    let b = c .before .before .before .before .before .before .before .before .before .before .before .before in
-    let made = numbered₁ b .numbered in
-    let is = c .before .before .before .before .before .before .before .before .large .ensures in
-    let filter = filter-of (c .before .before .before .before .before .before .before .before .before) in
-    let room = now (start₁ (numbered₁ b) .args .answer) in (
-      write .ensures .0 ∙ ap₂ (λ (p : Profile) (F : Filter). laid (written p F) room) is filter,
-      (made .ensures .0, (made .ensures .1 .0, write .ensures .1 ∙ ap₂ lengthOf is filter)),
+    let numbered = c .before .before .before .before .before .before .before .before .before .before .before .before .before .before .before .before .before .before .before .before .before .before .before .before .before .before .numbered in
+    let a = c .before .before .before .before .before .before .before .before .before .before .before .before .before .before .before .before .before .before .before .before .before .before .before .before .before .before .before .before .before .before .before .before .before .before .args in
+    let filter = filter-of (c .before .before .before .before .before .before .before .before .before) in (
+      write .ensures .0 ∙ ap (λ (F : Filter). laid (written (a .p) F) (now (a .answer))) filter,
+      (numbered .ensures .0, (numbered .ensures .1 .0, write .ensures .1 ∙ ap (lengthOf (a .p)) filter)),
     )
 
 pub merged-spec : {M : Type 1} → statement M
 merged-spec =
     tie.close
     (tie.spec
-    nameless-requires
-    slice-aggregate-numbered
-    numbered-requires
+    (λ c κs. search needs)
+    (λ c. search needs)
+    (λ c κs. search needs)
     gather-requires
-    colourless-requires
-    array-share-prefix-order
-    slice-aggregate-colours-by
-    slice-aggregate-colours-by-2
+    (λ c κs. search needs)
+    (λ c. order-room (c .before .before .before .before .before .before .before .before .before .before .before))
+    (λ c. count-is (c .before .before .before .before .before .before .before .before .before .before .before .before))
+    (λ c. search needs)
     colours-by-requires
-    mul-wide
-    slice-read-wide
-    wide-requires
-    large-requires
+    (λ c. search needs)
+    (λ c. search needs)
+    (λ c κs. search needs)
     array-share-prefix-hues
     slice-aggregate-write
-    array-share-prefix-order-2
-    slice-aggregate-write-2
+    (λ c. order-room (c .before .before .before .before .before .before .before .before .before .before .before .before .before .before .before .before .before .before .before .before .before))
+    (λ c. count-is (c .before .before .before .before .before .before .before .before .before .before .before .before .before .before .before .before .before .before .before .before .before .before))
     write-requires
-    same-length
-    same-length-2
-    same-length-3
+    (λ c. search needs)
+    (λ c. search needs)
+    (λ c. search needs)
+    (λ c. search needs)
     returns)
