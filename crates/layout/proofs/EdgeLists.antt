@@ -221,7 +221,7 @@ fit-edge P (suc e) (a ∷ b ∷ []) i f l = absurd (f .1 .1)
 fit-edge P (suc e) (a ∷ b ∷ c ∷ vs) zero f l = record { source = f .0; label = f .1 .0; target = f .1 .1 .0 }
 fit-edge P (suc e) (a ∷ b ∷ c ∷ vs) (suc i) f l = fits-cons P a b c vs i (fit-edge P e vs i (f .1 .1 .1) (omega arith))
 
-take-three : (vs : List ℕ) (o : ℕ) → o + 2 < length vs → take (o + 3) vs ≡ take o vs ++ (getD vs o 0 ∷ getD vs (o + 1) 0 ∷ getD vs (o + 2) 0 ∷ [])
+pub take-three : (vs : List ℕ) (o : ℕ) → o + 2 < length vs → take (o + 3) vs ≡ take o vs ++ (getD vs o 0 ∷ getD vs (o + 1) 0 ∷ getD vs (o + 2) 0 ∷ [])
 take-three vs o h = rw (take-add o 3 vs, drop-three vs o h)
 
 -- an edge's three parts joined to one field
@@ -230,7 +230,7 @@ pub put-joined : (P : Profile) (s : List ℕ) (at : ℕ) (e : Edge) → e .sourc
 unfolding edgeBits edgeWidths flat putFields
 put-joined P s at e hs hl ht = put-three s at (P .states) (P .labels) (P .states) (e .source) (e .label) (e .target) hs hl ht
 
-widths-append : (P : Profile) (i k : ℕ) → edgeWidths P (i + k) ≡ edgeWidths P i ++ edgeWidths P k
+pub widths-append : (P : Profile) (i k : ℕ) → edgeWidths P (i + k) ≡ edgeWidths P i ++ edgeWidths P k
 unfolding edgeWidths
 widths-append P zero k = ap (edgeWidths P) (zero-add k)
 widths-append P (suc i) k = rw (suc-add i k) (ap {B = List ℕ} (λ r. P .states ∷ P .labels ∷ P .states ∷ r) (widths-append P i k))

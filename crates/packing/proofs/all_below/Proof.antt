@@ -16,26 +16,17 @@ Inv-loop limit values i₀ i = (i ≤ length values) × (allBelow limit values �
 abbrev μ-loop : tie.MeasureT-loop
 μ-loop limit values i₀ i = length values - i
 
-shared-slice-read-wide : tie.Need-shared-slice-read-wide Inv-loop μ-loop
-shared-slice-read-wide c = omega arith
-
 returns : tie.Need-returns Inv-loop μ-loop
 returns c =
     let loop = c .before .before .before .before .loop in
     let a = c .before .before .before .before .before .before .args in
-    sym (loop .inv .1 ∙ above-here (a .limit) (now (a .values)) (loop .i) (omega arith) (omega (arith, c .before .wide .ensures, c .if1 .taken)))
-
-add-i : tie.Need-add-i Inv-loop μ-loop
-add-i c = omega arith
-
-loop-less : tie.Need-loop-less Inv-loop μ-loop
-loop-less c = omega arith
+    sym (loop .inv .1 ∙ above-here (a .limit) (now (a .values)) (loop .i) (omega arith) (omega (arith, c .before .wide-byte .ensures .0, c .if1 .taken)))
 
 loop-again : tie.Need-loop-again Inv-loop μ-loop
 loop-again c =
     let loop = c .before .before .before .before .loop in
     let a = c .before .before .before .before .before .before .args in
-    (omega arith, loop .inv .1 ∙ below-next (a .limit) (now (a .values)) (loop .i) (omega arith) (omega (arith, c .before .wide .ensures, c .if1 .left)))
+    (omega arith, loop .inv .1 ∙ below-next (a .limit) (now (a .values)) (loop .i) (omega arith) (omega (arith, c .before .wide-byte .ensures .0, c .if1 .left)))
 
 returns-2 : tie.Need-returns-2 Inv-loop μ-loop
 returns-2 c =
@@ -50,10 +41,10 @@ all-below-spec =
     Inv-loop
     μ-loop
     (λ c. search needs)
-    shared-slice-read-wide
+    (λ c. omega arith)
     (λ c κs. search needs)
     returns
-    add-i
-    loop-less
+    (λ c. omega arith)
+    (λ c. omega arith)
     loop-again
     returns-2)

@@ -1,9 +1,15 @@
+-- `packing::listed` meets its contract. Assumes nothing.
+use mathlib.Core.Path.{refl}
 use borrow.Author.Needs.{needs}
 use Rattle.packing.proofs.listed.Statement.{statement}
 use Rattle.packing.proofs.listed.Tie as tie
 
 returns : tie.Need-returns
-returns c = rw (c .before .before .before .before .wide .ensures .0, c .before .before .wide2 .ensures .0, c .wide3 .ensures .0)
+returns c =
+    let source = c .before .before .before .before .wide-byte .ensures in
+    let label = c .before .before .wide-byte2 .ensures in
+    let target = c .wide-byte3 .ensures in
+    (rw (source .0, label .0, target .0), record { source = source .1; label = label .1; target = target .1 })
 
 pub listed-spec : {M : Type 1} → statement M
 listed-spec =

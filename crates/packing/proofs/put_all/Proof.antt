@@ -1,39 +1,37 @@
--- `packing::put_all` meets its contract. The invariant: the edges so far are written or held, one behind another. Assumes nothing.
-use mathlib.Core.Path.{_≡_, refl, ap, ap₂, sym, _∙_}
-use mathlib.Core.List.{List, _∷_, []}
+-- `packing::put_all` meets its contract. The invariant: the edges so far are drawn, one behind another. Assumes nothing.
+use mathlib.Core.Path.{_≡_, ap, sym, subst, _∙_}
+use mathlib.Core.List.{List, _∷_, [], _++_}
 use Prim.Native.Nat.{ℕ, _+_, _*_, _-_, _≤_}
-use native.Mathlib.Nat.{mul-suc, le-antisymm}
-use native.Mathlib.Numerals.{add-one}
+use native.Mathlib.Nat.{le-antisymm}
 use native.Mathlib.Omega.{arith}
 use borrow.Author.Needs.{needs}
 use denote.Ref.{now}
 use lib.ListN.{length, take}
 use lib.Seq.{take-length}
-use Rattle.pen.specs.Runs.{putFields, inked, placeOf, Ready}
+use Rattle.pen.specs.Runs.{inked, placeOf, Drawn}
 use Rattle.pen.proofs.Runs.{fit-length}
+use Rattle.pen.proofs.Pens.{drawn-behind, drawn-length}
 use Rattle.meaning.specs.Filter.{Edge}
-use Rattle.layout.specs.Layout.{edgeBits, edgeWidths, putEdges}
+use Rattle.layout.specs.Layout.{edgeBits, edgeWidths, flat}
 use Rattle.layout.specs.Code.{edgeIn}
 use Rattle.layout.proofs.Bounds.{edges-high}
-use Rattle.layout.proofs.EdgeLists.{length-widths, fit-edge, puts-listed}
+use Rattle.layout.proofs.EdgeLists.{length-widths, total-edges, widths-append, fit-edge, take-three}
 use Rattle.packing.proofs.put_all.Statement.{statement}
 use Rattle.packing.proofs.put_all.Tie as tie
 
 abbrev Inv-loop : tie.InvT-loop
-Inv-loop p part₀ bit edges e pen₀ i₀ part pen i =
-    (i ≤ e) × Ready pen × (placeOf pen ≡ bit + edgeBits p * i) × (length part ≡ length part₀)
-    × (inked part pen ≡ putFields part₀ bit (edgeWidths p i) (take (3 * i) edges))
+Inv-loop p part₀ bit edges e pen₀ i₀ part pen i = (i ≤ e) × Drawn part₀ bit (edgeWidths p i) (take (3 * i) edges) part pen
 
 abbrev μ-loop : tie.MeasureT-loop
 μ-loop p part₀ bit edges e pen₀ i₀ part pen i = e - i
 
 -- there are three bytes for each edge
 whole : (c : tie.Start Inv-loop μ-loop) → length (now (c .args .edges)) ≡ 3 * c .args .e
-whole c = sym (fit-length (edgeWidths (c .args .p) (c .args .e)) (now (c .args .edges)) (c .pre .3)) ∙ length-widths (c .args .p) (c .args .e)
+whole c = sym (fit-length (edgeWidths (c .args .p) (c .args .e)) (now (c .args .edges)) (c .pre .fit)) ∙ length-widths (c .args .p) (c .args .e)
 
 loop-holds : tie.Need-loop-holds Inv-loop μ-loop
-unfolding putFields edgeWidths
-loop-holds c = let is = c .begin .ensures in (omega arith, is .2, omega (arith, is .1), refl, is .0)
+unfolding edgeWidths
+loop-holds c = (omega arith, c .begin .ensures)
 
 listed-requires : tie.Need-listed-requires Inv-loop μ-loop
 listed-requires c κs = omega (arith, whole (c .before .before .before .before .before .before .before))
@@ -44,48 +42,39 @@ push-requires c κs =
     let loop = in-loop .before .loop in
     let start = in-loop .before .before .before .before .before .before in
     let a = start .args in
-    let is = c .listed .ensures in
-    let f = fit-edge (a .p) (a .e) (now (a .edges)) (loop .i) (start .pre .3) (in-loop .loop-test .taken) in (
-      start .pre .0,
-      loop .inv .1,
-      omega (arith, loop .inv .2, start .pre .1, edges-high (a .p) (start .pre .0) (loop .i) (omega arith)),
-      rw (ap (λ (e : Edge). e .source) is) (f .source),
-      rw (ap (λ (e : Edge). e .label) is) (f .label),
-      rw (ap (λ (e : Edge). e .target) is) (f .target),
-    )
-
-add-i : tie.Need-add-i Inv-loop μ-loop
-add-i c = omega arith
-
-loop-less : tie.Need-loop-less Inv-loop μ-loop
-loop-less c = omega arith
+    let pre = start .pre in
+    let is = c .listed .ensures .0 in
+    let f = fit-edge (a .p) (a .e) (now (a .edges)) (loop .i) (pre .fit) (in-loop .loop-test .taken) in
+    record {
+      usable = pre .usable;
+      ready = loop .inv .1 .ready;
+      near = omega (arith, loop .inv .1 .place, total-edges (a .p) (loop .i), pre .begin, edges-high (a .p) (pre .usable) (loop .i) (omega (arith, pre .few)));
+      source = rw (ap (λ (e : Edge). e .source) is) (f .source);
+      label = rw (ap (λ (e : Edge). e .label) is) (f .label);
+      target = rw (ap (λ (e : Edge). e .target) is) (f .target);
+    }
 
 loop-again : tie.Need-loop-again Inv-loop μ-loop
+unfolding flat
 loop-again c =
     let push = c .before .before in
-    let listed = push .before in
-    let in-loop = listed .before .before in
+    let in-loop = push .before .before .before in
     let loop = in-loop .before .loop in
     let start = in-loop .before .before .before .before .before .before in
     let a = start .args in
     let edges = now (a .edges) in
     let i = loop .i in
-    let is = push .push .ensures in (
-      omega arith,
-      is .2,
-      rw (add-one i, mul-suc (edgeBits (a .p)) i) (omega (arith, is .1, loop .inv .2)),
-      push .push .kept .1 .0 ∙ loop .inv .3,
-      is .0
-          ∙ ap (λ (e : Edge). putEdges (a .p) (inked (loop .part) (loop .pen)) (placeOf (loop .pen)) (e ∷ [])) (listed .listed .ensures)
-          ∙ ap₂ (λ (s : List ℕ) (at : ℕ). putEdges (a .p) s at (edgeIn edges (3 * i) ∷ [])) (loop .inv .4) (loop .inv .2)
-          ∙ puts-listed (a .p) (now (a .part)) (a .bit) i edges (omega (arith, whole start)),
-    )
+    let next : 3 * (i + 1) ≡ 3 * i + 3 = omega arith in
+    let drawn =
+    subst (λ (e : Edge). Drawn (inked (loop .part) (loop .pen)) (placeOf (loop .pen)) (edgeWidths (a .p) 1) (flat (e ∷ [])) (push .push .last .1 .0) (push .push .result))
+    (push .before .listed .ensures .0) (push .push .ensures) in
+    (omega arith, rw (next, take-three edges (3 * i) (omega (arith, whole start)), widths-append (a .p) i 1) (drawn-behind (loop .inv .1) drawn))
 
 finish-requires : tie.Need-finish-requires Inv-loop μ-loop
-finish-requires c κs = c .before .before .loop .inv .1
+finish-requires c κs = c .before .before .loop .inv .1 .ready
 
 same-length : tie.Need-same-length Inv-loop μ-loop
-same-length c = c .before .before .finish .kept .0 ∙ c .before .before .before .before .before .loop .inv .3
+same-length c = c .before .before .finish .kept .0 ∙ drawn-length (c .before .before .before .before .before .loop .inv .1)
 
 returns : tie.Need-returns Inv-loop μ-loop
 returns c =
@@ -96,7 +85,7 @@ returns c =
     let edges = now (start .args .edges) in
     let all : loop .i ≡ start .args .e = le-antisymm (loop .inv .0) (left .loop-test .left) in
     let three : 3 * start .args .e ≡ length edges = sym (whole start) in
-    done .finish .ensures ∙ rw (all, three, take-length edges) at (loop .inv .4)
+    done .finish .ensures ∙ rw (all, three, take-length edges) at (loop .inv .1 .ink)
 
 pub put-all-spec : {M : Type 1} → statement M
 put-all-spec =
@@ -108,8 +97,8 @@ put-all-spec =
     loop-holds
     listed-requires
     push-requires
-    add-i
-    loop-less
+    (λ c. search needs)
+    (λ c. search needs)
     loop-again
     finish-requires
     same-length

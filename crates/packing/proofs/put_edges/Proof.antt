@@ -21,11 +21,11 @@ returns c =
     let at : from * 8 + a .at % 8 ≡ a .at = omega arith in
     back-tail room (put .put-all .last .1 .0) from
     ∙ rw (put .put-all .ensures, lent-tail room from)
-    (sym (puts-drop room from (a .at % 8) (edgeWidths (a .p) (a .e)) (now (a .edges)) (start .pre .4))
+    (sym (puts-drop room from (a .at % 8) (edgeWidths (a .p) (a .e)) (now (a .edges)) (start .pre .reaches))
     ∙ ap (λ (k : ℕ). putFields room k (edgeWidths (a .p) (a .e)) (now (a .edges))) at)
 
-pub put-spec : {M : Type 1} → statement M
-put-spec =
+pub put-edges-spec : {M : Type 1} → statement M
+put-edges-spec =
     tie.close
     (tie.spec
     (λ c. search needs)

@@ -14,7 +14,7 @@ use lib.ListN.{length, drop}
 use Rattle.meaning.specs.Filter.{Edge}
 use Rattle.edges.specs.Faults.{firstFault}
 use Rattle.layout.specs.Layout.{threes}
-use Rattle.layout.specs.Code.{edgeOf}
+use Rattle.layout.specs.Code.{edgeOf, Small}
 use Rattle.edges.specs.Walk.{edgeBefore, faultOf}
 use Rattle.layout.proofs.EdgeLists.{threes-cons, threes-end}
 use Rattle.edges.proofs.Tests.{fault-here, fault-next}
@@ -23,28 +23,17 @@ use Rattle.packing.proofs.test_list.Tie as tie
 
 abbrev Inv-loop : tie.InvT-loop
 Inv-loop edges n m e before₀ i₀ before i =
-    (i ≤ e) × ((before .source < 256) × (before .label < 256))
+    (i ≤ e) × Small before
     × (firstFault n m none 0 (threes edges) ≡ firstFault n m (edgeBefore (eqb i 0) before) i (threes (drop (3 * i) edges)))
 
 abbrev μ-loop : tie.MeasureT-loop
 μ-loop edges n m e before₀ i₀ before i = e - i
 
 loop-holds : tie.Need-loop-holds Inv-loop μ-loop
-loop-holds c = (omega arith, (lit< tt, lit< tt), search needs)
-
-listed-requires : tie.Need-listed-requires Inv-loop μ-loop
-listed-requires c κs = omega arith
-
--- the parts of a listed edge are bytes
-bytes : (c : tie.After-listed Inv-loop μ-loop) → (c .listed .result .source < 256) × (c .listed .result .label < 256)
-bytes c =
-    let byte = c .before .before .before .shared-slice-known .given in
-    let i = c .before .before .loop .i in
-    let is = c .listed .ensures in
-    (omega (arith, ap (λ (e : Edge). e .source) is, byte (3 * i)), omega (arith, ap (λ (e : Edge). e .label) is, byte (3 * i + 1)))
+loop-holds c = (omega arith, record { source = lit< tt; label = lit< tt; target = lit< tt }, search needs)
 
 test-requires : tie.Need-test-requires Inv-loop μ-loop
-test-requires c κs = let before = c .before .before .loop .inv .1 in (before .0, before .1, bytes c .0, bytes c .1)
+test-requires c κs = (c .before .before .loop .inv .1, c .listed .ensures .1)
 
 returns : tie.Need-returns Inv-loop μ-loop
 returns c =
@@ -54,16 +43,10 @@ returns c =
     let edge = edgeOf (c .before .before .before .listed .result) in
     let rest = threes (drop (3 * loop .i + 3) (now (a .edges))) in
     let here : threes (drop (3 * loop .i) (now (a .edges))) ≡ edge ∷ rest =
-    threes-cons (now (a .edges)) (3 * loop .i) (omega arith) ∙ rw (c .before .before .before .listed .ensures) in
+    threes-cons (now (a .edges)) (3 * loop .i) (omega arith) ∙ rw (c .before .before .before .listed .ensures .0) in
     ap faultOf (g .1)
     ∙ fault-here (a .n) (a .m) (loop .i) (edgeBefore (eqb (loop .i) 0) (loop .before)) edge rest _ (sym (ap faultOf (g .1)) ∙ c .before .before .test .ensures)
     ∙ sym (loop .inv .2 ∙ rw here)
-
-add-i : tie.Need-add-i Inv-loop μ-loop
-add-i c = omega arith
-
-loop-less : tie.Need-loop-less Inv-loop μ-loop
-loop-less c = omega arith
 
 loop-again : tie.Need-loop-again Inv-loop μ-loop
 loop-again c =
@@ -73,11 +56,11 @@ loop-again c =
     let edge = edgeOf (c .before .before .before .listed .result) in
     let rest = threes (drop (3 * loop .i + 3) (now (a .edges))) in
     let here : threes (drop (3 * loop .i) (now (a .edges))) ≡ edge ∷ rest =
-    threes-cons (now (a .edges)) (3 * loop .i) (omega arith) ∙ rw (c .before .before .before .listed .ensures) in
+    threes-cons (now (a .edges)) (3 * loop .i) (omega arith) ∙ rw (c .before .before .before .listed .ensures .0) in
     let next : 3 * (loop .i + 1) ≡ 3 * loop .i + 3 = omega arith in
     let later : eqb (loop .i + 1) 0 ≡ false = ne-eqb (loop .i + 1) 0 (λ z. omega arith) in (
       omega arith,
-      bytes (c .before .before .before),
+      c .before .before .before .listed .ensures .1,
       loop .inv .2
           ∙ rw (here, next, later) (fault-next (a .n) (a .m) (loop .i) (edgeBefore (eqb (loop .i) 0) (loop .before)) edge rest (sym (ap faultOf (g .1)) ∙ c .before .before .test .ensures)),
     )
@@ -97,12 +80,12 @@ test-list-spec =
     Inv-loop
     μ-loop
     loop-holds
-    listed-requires
+    (λ c κs. omega arith)
     test-requires
     (λ c. search needs)
     (λ c. search needs)
     returns
-    add-i
-    loop-less
+    (λ c. omega arith)
+    (λ c. omega arith)
     loop-again
     returns-2)

@@ -11,7 +11,7 @@ use lib.ListN.{length, replicate}
 use Rattle.bits.specs.Bits.{Bytes, putField}
 use Rattle.pen.specs.Runs.{putFields}
 use Rattle.meaning.specs.Filter.{Filter}
-use Rattle.file.specs.Layout as Layout
+use Rattle.layout.specs.Layout as Layout
 use Rattle.layout.specs.Layout.{fileBits, bytesFor, fileLength, fillBits, edgeWidths, lengthOf, threes, listed}
 use Rattle.layout.proofs.Bounds.{colours-high}
 use Rattle.files.specs.Tests.{Written}
@@ -37,7 +37,7 @@ put-requires : tie.Need-put-requires
 put-requires c κs =
     let start = c .before .before .before .before in
     let w = passed start .writable in
-    (start .pre .0, rw (count start) at (header-fit (start .args .p) (start .pre .0) (F start) w), w .states-low, w .labels-low)
+    record { usable = start .pre .0; fit = rw (count start) at (header-fit (start .args .p) (start .pre .0) (F start) w); states = w .states-low; labels = w .labels-low }
 
 put-run-requires : tie.Need-put-run-requires
 put-run-requires c κs =
@@ -46,28 +46,33 @@ put-run-requires c κs =
     let ok = start .pre .0 in
     let w = passed start .writable in
     let n = length (now (start .args .colours)) in
-    (ok .colour≤, omega (arith, c .header-bits .ensures .1, mul-comm n (p .colour), colours-high p ok n (states≤256 p ok (F start) w)), colours-fit p ok (F start) w)
+    record {
+      narrow = ok .colour≤;
+      near = omega (arith, c .header-bits .ensures .1, mul-comm n (p .colour), colours-high p ok n (states≤256 p ok (F start) w));
+      small = colours-fit p ok (F start) w;
+    }
 
 edges-begin-requires : tie.Need-edges-begin-requires
 edges-begin-requires c κs =
     let start = c .before .before .before .before .before .before .before .before .before .before .before .before .before in
     (start .pre .0, states≤256 (start .args .p) (start .pre .0) (F start) (passed start .writable))
 
-put-requires-2 : tie.Need-put-requires-2
+put-edges-requires : tie.Need-put-edges-requires
 unfolding lengthOf fileLength bytesFor fileBits
-put-requires-2 c κs =
+put-edges-requires c κs =
     let run = c .before .before .before .before in
     let put = run .before .before .before .before .before in
     let start = put .before .before .before .before .before in
     let p = start .args .p in
     let w = passed start .writable in
-    let same : length (run .put-run .last .0) ≡ length (now (start .args .room)) = run .put-run .kept .0 ∙ put .put .kept .1 .0 in (
-      start .pre .0,
-      c .edges-begin .ensures .1,
-      rw (← count start) (count≤65536 p (start .pre .0) (F start) w),
-      rw (count start, flat start) at (edges-fit p (start .pre .0) (F start) w),
-      omega (arith, same, c .edges-begin .ensures .0, passed start .roomy),
-    )
+    let same : length (run .put-run .last .0) ≡ length (now (start .args .room)) = run .put-run .kept .0 ∙ put .put .kept .1 .0 in
+    record {
+      usable = start .pre .0;
+      begin = c .edges-begin .ensures .1;
+      few = rw (← count start) (count≤65536 p (start .pre .0) (F start) w);
+      fit = rw (count start, flat start) at (edges-fit p (start .pre .0) (F start) w);
+      reaches = omega (arith, same, c .edges-begin .ensures .0, passed start .roomy);
+    }
 
 fill-requires : tie.Need-fill-requires
 fill-requires c κs =
@@ -93,7 +98,7 @@ returns c =
     let bytes : Bytes room = λ i. omega (arith, put .before .before .slice-known .given i) in
     fill .fill .ensures
     ∙ ap (λ (s : List ℕ). putField s (fileBits p n e) (fillBits p n e) 0)
-    (put2 .put2 .ensures
+    (put2 .put-edges .ensures
     ∙ ap₂ (λ (s : List ℕ) (at : ℕ). putFields s at (edgeWidths p e) edges)
     (run .put-run .ensures ∙ ap₂ (λ (s : List ℕ) (at : ℕ). putFields s at (replicate n (p .colour)) colours) (put .put .ensures) (header .header-bits .ensures .0))
     (begin .edges-begin .ensures .0))
@@ -107,7 +112,7 @@ write-spec =
     (λ c κs. search needs)
     put-run-requires
     edges-begin-requires
-    put-requires-2
+    put-edges-requires
     fill-requires
     (λ c. search needs)
     returns)

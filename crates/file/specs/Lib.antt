@@ -1,6 +1,0 @@
-pub mod Layout
-pub mod Contents
-pub mod Answers
-pub mod Refusals
-pub mod Promise
-pub mod Code
