@@ -1,4 +1,4 @@
--- `rounds::count` meets its contract. Assumes nothing.
+-- `members::count` meets its contract. Assumes nothing.
 use mathlib.Core.Path.{_≡_, refl, sym, ap, _∙_}
 use mathlib.Core.Logic.{⊎-elim}
 use Prim.Native.Nat.{ℕ, _+_, _-_, _≤_}
@@ -10,8 +10,8 @@ use Rattle.meaning.specs.SearchLaws.{count-hit, count-miss}
 use Rattle.meaning.specs.Search.{count}
 use Rattle.meaning.specs.Classes.{named, classes}
 use borrow.Author.Needs.{needs}
-use Rattle.rounds.proofs.count.Statement.{statement}
-use Rattle.rounds.proofs.count.Tie as tie
+use Rattle.members.proofs.count.Statement.{statement}
+use Rattle.members.proofs.count.Tie as tie
 
 abbrev Inv-loop : tie.InvT-loop
 Inv-loop names n k₀ s₀ k s = (s ≤ n) × (k ≡ count (named names) s) × (k ≤ s)
@@ -22,24 +22,6 @@ abbrev μ-loop : tie.MeasureT-loop
 loop-holds : tie.Need-loop-holds Inv-loop μ-loop
 unfolding count
 loop-holds c = (omega arith, refl, omega arith)
-
-mul-if1 : tie.Need-mul-if1 Inv-loop μ-loop
-mul-if1 c = omega arith
-
-element-copy-out-if1 : tie.Need-element-copy-out-if1 Inv-loop μ-loop
-element-copy-out-if1 c = search needs
-
-cast-if1 : tie.Need-cast-if1 Inv-loop μ-loop
-cast-if1 c = omega arith
-
-add-k : tie.Need-add-k Inv-loop μ-loop
-add-k c = omega arith
-
-add-s : tie.Need-add-s Inv-loop μ-loop
-add-s c = omega arith
-
-loop-less : tie.Need-loop-less Inv-loop μ-loop
-loop-less c = omega arith
 
 loop-again : tie.Need-loop-again Inv-loop μ-loop
 loop-again c = let loop = c .before .before .before .loop in
@@ -66,11 +48,11 @@ count-spec =
     Inv-loop
     μ-loop
     loop-holds
-    mul-if1
-    element-copy-out-if1
-    cast-if1
-    add-k
-    add-s
-    loop-less
+    (λ c. search needs)
+    (λ c. search needs)
+    (λ c. search needs)
+    (λ c. search needs)
+    (λ c. search needs)
+    (λ c. search needs)
     loop-again
     returns)

@@ -13,7 +13,7 @@ use Rattle.meaning.specs.Cases.{test}
 use Rattle.meaning.specs.Search.{any, at}
 use Rattle.meaning.specs.SearchLaws.{at-take}
 use Rattle.meaning.specs.ClassesLaws.{Named}
-use Rattle.rounds.specs.Rounds.{Linked, Heads}
+use Rattle.members.specs.Members.{Linked, Heads}
 
 -- ---- from one member to the next
 
