@@ -6,19 +6,23 @@ use mathlib.Core.List.{List}
 use mathlib.Core.Option.{Option, none, some}
 use native.Mathlib.Decide.{decLt, ℕ-discrete}
 use native.Mathlib.Omega.{arith}
-use lib.Dec.{eqb, ltb}
+use lib.Dec.{eqb}
 use borrow.Author.Tests.{eq-eqb, ne-eqb}
-use Rattle.meaning.specs.Cases.{test, no-both, and-intro, and-left, and-right}
+use Rattle.meaning.specs.Cases.{test, no-both, and-left, and-right}
 use Rattle.meaning.specs.Search.{any, at}
 use Rattle.meaning.specs.SearchLaws.{any-intro, any-elim, any-none}
-use Rattle.meaning.specs.Reduced.{apart, conflict, has}
+use Rattle.meaning.specs.Reduced.{apart, conflict}
 use Rattle.sets.specs.Sets.{holds}
 use Rattle.sets.proofs.Laws.{holds-none}
 use Rattle.table.specs.Table.{Table, look}
-use Rattle.table.proofs.Laws.{look-some, look-none, look-there}
+use Rattle.table.proofs.Laws.{look-some, look-none}
 use Rattle.conflicts.specs.Conflicts.{clash}
 
--- ---- any, for a loop upward
+-- ---- tests
+
+pub and-false : (x : Bool) → (x && false) ≡ false
+and-false true = refl
+and-false false = refl
 
 pub any-empty : (p : ℕ → Bool) (n : ℕ) → ((i : ℕ) → i < n → p i ≡ false) → any p n ≡ false
 any-empty p n h = test (any p n) (λ q. let w = any-elim p n q in no-both (w .2) (h (w .0) (w .1))) (λ q. q)

@@ -1,8 +1,7 @@
 -- Members of a class that follow each other: how the links are made, and that what holds of the members and of no other state holds
 -- of all. Assumes nothing.
-use Prim.Native.Nat.{ℕ, zero, suc, _+_, _≤_, _<_}
-use mathlib.Core.Path.{_≡_, refl, sym, ap, _∙_}
-use mathlib.Core.Bool.{Bool, true, false}
+use Prim.Native.Nat.{ℕ, _+_, _≤_, _<_}
+use mathlib.Core.Path.{_≡_, sym, ap, _∙_}
 use mathlib.Core.List.{List}
 use native.Mathlib.Omega.{arith}
 use lib.Dec.{eqb, ltb}
@@ -10,7 +9,7 @@ use lib.ListN.{length, set, take, replicate, length-set, length-replicate, getD-
 use lib.Seq.{getD-set-same, getD-set-other}
 use borrow.Author.Tests.{eqb-true, eqb-false, ltb-true, ltb-false}
 use Rattle.meaning.specs.Cases.{test}
-use Rattle.meaning.specs.Search.{any, at}
+use Rattle.meaning.specs.Search.{at}
 use Rattle.meaning.specs.SearchLaws.{at-take}
 use Rattle.meaning.specs.ClassesLaws.{Named}
 use Rattle.members.specs.Members.{Linked, Heads}

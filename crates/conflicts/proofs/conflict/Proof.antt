@@ -2,7 +2,6 @@
 use borrow.Author.Needs.{needs}
 use native.Mathlib.Omega.{arith}
 use mathlib.Core.Path.{sym}
-use denote.Ref.{now}
 use Rattle.table.specs.Table.{table}
 use Rattle.conflicts.proofs.Laws.{Calm, calm-begun, calm-more, calm-broken, calm-all}
 use Rattle.conflicts.proofs.conflict.Statement.{statement}
