@@ -1,4 +1,4 @@
--- `rounds::smallest_unmarked` meets its contract. Assumes nothing.
+-- `grouping::smallest_unmarked` meets its contract. Assumes nothing.
 use Prim.Native.Nat.{_≤_, _-_}
 use native.Mathlib.Omega.{arith}
 use borrow.Author.Needs.{needs}
@@ -6,8 +6,8 @@ use borrow.Author.Tests.{eq-eqb, ne-eqb}
 use lib.Dec.{eqb}
 use Rattle.meaning.specs.Search.{least, at}
 use Rattle.meaning.specs.SearchLaws.{least-next, least-here, least-gone}
-use Rattle.rounds.proofs.smallest_unmarked.Statement.{statement}
-use Rattle.rounds.proofs.smallest_unmarked.Tie as tie
+use Rattle.grouping.proofs.smallest_unmarked.Statement.{statement}
+use Rattle.grouping.proofs.smallest_unmarked.Tie as tie
 
 abbrev Inv-loop : tie.InvT-loop
 Inv-loop marks s g₀ g = (g ≤ s) × (g ≤ least (λ h. eqb (at marks h) 0) s)
@@ -18,26 +18,11 @@ abbrev μ-loop : tie.MeasureT-loop
 loop-holds : tie.Need-loop-holds Inv-loop μ-loop
 loop-holds c = (omega arith, omega arith)
 
-element-copy-out-if1 : tie.Need-element-copy-out-if1 Inv-loop μ-loop
-element-copy-out-if1 c = search needs
-
-cast-result : tie.Need-cast-result Inv-loop μ-loop
-cast-result c = search needs
-
 returns : tie.Need-returns Inv-loop μ-loop
 returns c = least-here _ _ _ (c .before .before .before .loop .inv .1) (eq-eqb _ _ (c .if1 .taken))
 
-add-g : tie.Need-add-g Inv-loop μ-loop
-add-g c = search needs
-
-loop-less : tie.Need-loop-less Inv-loop μ-loop
-loop-less c = search needs
-
 loop-again : tie.Need-loop-again Inv-loop μ-loop
 loop-again c = (omega arith, least-next _ _ _ (c .before .before .before .loop .inv .1) (omega arith) (ne-eqb _ _ (c .if1 .left)))
-
-cast-result-2 : tie.Need-cast-result-2 Inv-loop μ-loop
-cast-result-2 c = search needs
 
 returns-2 : tie.Need-returns-2 Inv-loop μ-loop
 returns-2 c = least-gone _ _ _ (c .before .loop .inv .1) (omega arith)
@@ -49,11 +34,11 @@ smallest-unmarked-spec =
     Inv-loop
     μ-loop
     loop-holds
-    element-copy-out-if1
-    cast-result
+    (λ c. search needs)
+    (λ c. search needs)
     returns
-    add-g
-    loop-less
+    (λ c. search needs)
+    (λ c. search needs)
     loop-again
-    cast-result-2
+    (λ c. search needs)
     returns-2)

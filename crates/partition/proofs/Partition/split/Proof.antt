@@ -1,14 +1,14 @@
--- `rounds::Partition::split` meets its contract. Assumes nothing.
+-- `partition::Partition::split` meets its contract. Assumes nothing.
 use Prim.Native.Nat.{_≤_, _<_, _+_, _-_}
 use native.Mathlib.Omega.{arith}
 use mathlib.Core.Path.{_≡_, refl, _∙_}
 use mathlib.Core.Logic.{⊎-elim}
 use Rattle.meaning.specs.Search.{at}
-use Rattle.rounds.proofs.Laws.{Renamed, renamed-none, renamed-skip, renamed-new, renamed-again, renamed-all, rounded-by}
-use Rattle.rounds.proofs.Members.{Hop, hop}
+use Rattle.partition.proofs.Laws.{Renamed, renamed-none, renamed-skip, renamed-new, renamed-again, renamed-all, rounded-by}
+use Rattle.members.proofs.Laws.{Hop, hop}
 use borrow.Author.Needs.{needs}
-use Rattle.rounds.proofs.Partition.split.Statement.{statement}
-use Rattle.rounds.proofs.Partition.split.Tie as tie
+use Rattle.partition.proofs.Partition.split.Statement.{statement}
+use Rattle.partition.proofs.Partition.split.Tie as tie
 
 abbrev Inv-loop : tie.InvT-loop
 Inv-loop table labels next m n c names₀ rounds groups firsts₀ s₀ names firsts s = (s ≤ n) × (s < n → at names₀ s ≡ c) × Renamed n names₀ c groups names firsts s
@@ -16,15 +16,9 @@ Inv-loop table labels next m n c names₀ rounds groups firsts₀ s₀ names fir
 abbrev μ-loop : tie.MeasureT-loop
 μ-loop table labels next m n c names₀ rounds groups firsts₀ s₀ names firsts s = n - s
 
-ungrouped-requires : tie.Need-ungrouped-requires Inv-loop μ-loop
-ungrouped-requires c κs = search needs
-
 group-requires : tie.Need-group-requires Inv-loop μ-loop
 group-requires c κs = let pre = c .before .before .before .before .before .pre in
     (pre .1, omega (arith, pre .0), search needs, pre .3, pre .4, pre .5, pre .6, c .before .before .ungrouped .ensures .0, pre .7)
-
-fresh-requires : tie.Need-fresh-requires Inv-loop μ-loop
-fresh-requires c κs = search needs
 
 loop-holds : tie.Need-loop-holds Inv-loop μ-loop
 loop-holds c = let head = c .before .before .before .before .before .before .before .pre .6 in (
@@ -32,15 +26,6 @@ loop-holds c = let head = c .before .before .before .before .before .before .bef
   λ _. head .member,
   renamed-skip _ _ _ _ _ _ 0 (renamed-none _ _ _ _ _ _ refl (search needs) (c .fresh .ensures .0)) _ (omega arith) (λ x h l. head .before x l),
 )
-
-mul-wide : tie.Need-mul-wide Inv-loop μ-loop
-mul-wide c = search needs
-
-array-read-wide : tie.Need-array-read-wide Inv-loop μ-loop
-array-read-wide c = search needs
-
-wide-requires : tie.Need-wide-requires Inv-loop μ-loop
-wide-requires c κs = search needs
 
 -- a group has a place of its own
 group-low : (c : tie.After-wide Inv-loop μ-loop) → c .wide .result < 256
@@ -54,9 +39,6 @@ mul-if1 c = omega (arith, group-low c)
 array-read-if1 : tie.Need-array-read-if1 Inv-loop μ-loop
 array-read-if1 c = omega (arith, group-low c)
 
-cast-firsts : tie.Need-cast-firsts Inv-loop μ-loop
-cast-firsts c = search needs
-
 mul-firsts : tie.Need-mul-firsts Inv-loop μ-loop
 mul-firsts c = omega (arith, group-low (c .before))
 
@@ -68,21 +50,6 @@ mul-names c = omega (arith, group-low (c .before))
 
 array-read-names : tie.Need-array-read-names Inv-loop μ-loop
 array-read-names c = omega (arith, group-low (c .before))
-
-mul-names-2 : tie.Need-mul-names-2 Inv-loop μ-loop
-mul-names-2 c = search needs
-
-array-write-names : tie.Need-array-write-names Inv-loop μ-loop
-array-write-names c = search needs
-
-mul-wide-2 : tie.Need-mul-wide-2 Inv-loop μ-loop
-mul-wide-2 c = search needs
-
-element-copy-out-wide : tie.Need-element-copy-out-wide Inv-loop μ-loop
-element-copy-out-wide c = search needs
-
-wide-requires-2 : tie.Need-wide-requires-2 Inv-loop μ-loop
-wide-requires-2 c κs = search needs
 
 loop-less : tie.Need-loop-less Inv-loop μ-loop
 loop-less c = let loop = c .before .before .before .before .before .loop in
@@ -104,9 +71,6 @@ loop-again c = let pre = c .before .before .before .before .before .before .befo
     (c .before .before .if1 .came) in
     (next .inside, next .member, renamed-skip _ _ _ _ _ _ (s + 1) more _ (omega (arith, next .after)) (λ x h l. next .gap x (omega arith) l))
 
-add-t36 : tie.Need-add-t36 Inv-loop μ-loop
-add-t36 c = search needs
-
 returns : tie.Need-returns Inv-loop μ-loop
 returns c = let inv = c .before .loop .inv in
     let made = c .before .before .before .group .ensures in
@@ -118,26 +82,26 @@ split-spec =
     (tie.spec
     Inv-loop
     μ-loop
-    ungrouped-requires
+    (λ c κs. search needs)
     group-requires
-    fresh-requires
+    (λ c κs. search needs)
     loop-holds
-    mul-wide
-    array-read-wide
-    wide-requires
+    (λ c. search needs)
+    (λ c. search needs)
+    (λ c κs. search needs)
     mul-if1
     array-read-if1
-    cast-firsts
+    (λ c. search needs)
     mul-firsts
     array-write-firsts
     mul-names
     array-read-names
-    mul-names-2
-    array-write-names
-    mul-wide-2
-    element-copy-out-wide
-    wide-requires-2
+    (λ c. search needs)
+    (λ c. search needs)
+    (λ c. search needs)
+    (λ c. search needs)
+    (λ c κs. search needs)
     loop-less
     loop-again
-    add-t36
+    (λ c. search needs)
     returns)

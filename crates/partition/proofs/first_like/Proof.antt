@@ -1,4 +1,4 @@
--- `rounds::first_like` meets its contract. Assumes nothing.
+-- `partition::first_like` meets its contract. Assumes nothing.
 use Prim.Native.Nat.{ℕ, _≤_, _<_, _-_}
 use native.Mathlib.Omega.{arith}
 use mathlib.Core.Path.{_≡_}
@@ -8,9 +8,9 @@ use borrow.Author.Count.{below-more}
 use borrow.Author.Tests.{ne-eqb}
 use lib.Dec.{eqb}
 use Rattle.meaning.specs.Search.{at}
-use Rattle.rounds.proofs.Laws.{twin-here}
-use Rattle.rounds.proofs.first_like.Statement.{statement}
-use Rattle.rounds.proofs.first_like.Tie as tie
+use Rattle.partition.proofs.Laws.{twin-here}
+use Rattle.partition.proofs.first_like.Statement.{statement}
+use Rattle.partition.proofs.first_like.Tie as tie
 
 abbrev Inv-loop : tie.InvT-loop
 Inv-loop colours s t₀ t = (t ≤ s) × ((k : ℕ) → k < t → eqb (at colours k) (at colours s) ≡ false)
@@ -21,29 +21,11 @@ abbrev μ-loop : tie.MeasureT-loop
 loop-holds : tie.Need-loop-holds Inv-loop μ-loop
 loop-holds c = (omega arith, λ k h. absurd (omega arith))
 
-element-copy-out-if1 : tie.Need-element-copy-out-if1 Inv-loop μ-loop
-element-copy-out-if1 c = search needs
-
-element-copy-out-if1-2 : tie.Need-element-copy-out-if1-2 Inv-loop μ-loop
-element-copy-out-if1-2 c = search needs
-
-cast-result : tie.Need-cast-result Inv-loop μ-loop
-cast-result c = search needs
-
 returns : tie.Need-returns Inv-loop μ-loop
 returns c = λ n h. twin-here _ n _ _ (omega arith) (c .if1 .taken) (c .before .before .before .before .loop .inv .1)
 
-add-t : tie.Need-add-t Inv-loop μ-loop
-add-t c = search needs
-
-loop-less : tie.Need-loop-less Inv-loop μ-loop
-loop-less c = search needs
-
 loop-again : tie.Need-loop-again Inv-loop μ-loop
 loop-again c = (omega arith, below-more _ _ (c .before .before .before .before .loop .inv .1) (ne-eqb _ _ (c .if1 .left)))
-
-cast-result-2 : tie.Need-cast-result-2 Inv-loop μ-loop
-cast-result-2 c = search needs
 
 returns-2 : tie.Need-returns-2 Inv-loop μ-loop
 returns-2 c = λ n h. let e : c .before .loop .t ≡ c .before .before .args .s = omega arith in twin-here _ n _ _ (omega arith) (rw e) (c .before .loop .inv .1)
@@ -55,12 +37,12 @@ first-like-spec =
     Inv-loop
     μ-loop
     loop-holds
-    element-copy-out-if1
-    element-copy-out-if1-2
-    cast-result
+    (λ c. search needs)
+    (λ c. search needs)
+    (λ c. search needs)
     returns
-    add-t
-    loop-less
+    (λ c. search needs)
+    (λ c. search needs)
     loop-again
-    cast-result-2
+    (λ c. search needs)
     returns-2)

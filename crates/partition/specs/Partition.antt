@@ -1,0 +1,25 @@
+-- The names of the classes at the beginning and after a round. They stand in a list that may be longer than n.
+-- Assumes nothing.
+use Prim.Native.Nat.{ℕ}
+use mathlib.Core.Path.{_≡_}
+use mathlib.Core.Bool.{Bool, true, false, _&&_}
+use mathlib.Core.List.{List}
+use lib.Dec.{eqb}
+use lib.ListN.{length, take}
+use Rattle.meaning.specs.Search.{least, at}
+use Rattle.meaning.specs.Classes.{split}
+use Rattle.meaning.specs.Reduced.{Grouping}
+
+-- The smallest state below n of the colour of s.
+unfoldable pub twin : List ℕ → ℕ → ℕ → ℕ
+twin hues n s = least (λ t. eqb (at hues t) (at hues s)) n
+
+-- The names after a round at class c.
+unfoldable pub rounded : Grouping → ℕ → (ℕ → ℕ → Bool) → List ℕ → ℕ → List ℕ
+rounded group n clash P c = split n P c (group (λ s. eqb (at P s) c) clash n)
+
+-- A partition's names and rounds are these, of n states.
+pub record Holds (names : List ℕ) (rounds n : ℕ) (P : List ℕ) (k : ℕ) : Type 0 where
+  pub long : length names ≡ 256
+  pub front : take n names ≡ P
+  pub count : rounds ≡ k
