@@ -2,13 +2,14 @@
 -- Assumes nothing.
 use Prim.Native.Nat.{ℕ}
 use mathlib.Core.Path.{_≡_}
-use mathlib.Core.Bool.{Bool, true, false, _&&_}
+use mathlib.Core.Bool.{Bool}
 use mathlib.Core.List.{List}
 use lib.Dec.{eqb}
 use lib.ListN.{length, take}
 use Rattle.meaning.specs.Search.{least, at}
 use Rattle.meaning.specs.Classes.{split}
 use Rattle.meaning.specs.Reduced.{Grouping}
+use Rattle.partition.specs.declared.Partition.{Partition}
 
 -- The smallest state below n of the colour of s.
 unfoldable pub twin : List ℕ → ℕ → ℕ → ℕ
@@ -18,8 +19,8 @@ twin hues n s = least (λ t. eqb (at hues t) (at hues s)) n
 unfoldable pub rounded : Grouping → ℕ → (ℕ → ℕ → Bool) → List ℕ → ℕ → List ℕ
 rounded group n clash P c = split n P c (group (λ s. eqb (at P s) c) clash n)
 
--- A partition's names and rounds are these, of n states.
-pub record Holds (names : List ℕ) (rounds n : ℕ) (P : List ℕ) (k : ℕ) : Type 0 where
-  pub long : length names ≡ 256
-  pub front : take n names ≡ P
-  pub count : rounds ≡ k
+-- The partition has these names for n states, and this many rounds are made.
+pub record Holds (Q : Partition) (n : ℕ) (P : List ℕ) (k : ℕ) : Type 0 where
+  pub long : length (Q .names) ≡ 256
+  pub names : take n (Q .names) ≡ P
+  pub rounds : Q .rounds ≡ k

@@ -1,7 +1,7 @@
 // The classes of the states, as they travel from round to round: their beginning, and one split.
 ghost use mathlib.Core.Path.{_≡_};
 ghost use Prim.Native.Nat.{ℕ, _+_, _<_, _≤_};
-ghost use lib.ListN.{length, take};
+ghost use lib.ListN.{length};
 ghost use Rattle.meaning.specs.Search.{tab};
 ghost use Rattle.meaning.specs.Classes.{groups};
 ghost use Rattle.table.specs.Table.{table};
@@ -33,7 +33,7 @@ fn first_like(colours: &[u8; 256], s: usize) -> u16
 // All states of one colour form one class.
 pub fn initial(colours: &[u8; 256], n: usize) -> Partition
     requires { ⌜ (n ≤ 256) × (length (now colours) ≡ 256) ⌝ }
-    ensures { λ r. ⌜ Holds (r .names) (r .rounds) n (tab n (twin (now (colours .entry)) n)) 0 ⌝ }
+    ensures { λ r. ⌜ Holds r n (tab n (twin (now (colours .entry)) n)) 0 ⌝ }
 {
     let mut names = arrays::fresh();
     let mut s = 0;
@@ -56,7 +56,7 @@ impl Partition {
     ) -> Partition
         requires { ⌜ Searched (table (now targets) (now labels)) (self .names) (now next) n × Heads (self .names) n c
             × (self .rounds < 65535) ⌝ }
-        ensures { λ r. ⌜ Holds (r .names) (r .rounds) n
+        ensures { λ r. ⌜ Holds r n
             (rounded groups n (clash (table (now (targets .entry)) (now (labels .entry))) (self .names)) (self .names) c)
             (self .rounds + 1) ⌝ }
     {

@@ -1,4 +1,4 @@
--- `partition::first_like` meets its contract. Assumes nothing.
+-- `partition::first_like` meets its contract. The invariant: no state before t has the colour of s. Assumes nothing.
 use Prim.Native.Nat.{ℕ, _≤_, _<_, _-_}
 use native.Mathlib.Omega.{arith}
 use mathlib.Core.Path.{_≡_}

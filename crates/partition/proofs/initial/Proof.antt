@@ -1,4 +1,4 @@
--- `partition::initial` meets its contract. Assumes nothing.
+-- `partition::initial` meets its contract. The invariant: the names before s are filled. Assumes nothing.
 use Prim.Native.Nat.{_≤_, _-_}
 use native.Mathlib.Omega.{arith}
 use mathlib.Core.Path.{refl}
@@ -21,7 +21,8 @@ loop-again : tie.Need-loop-again Inv-loop μ-loop
 loop-again c = (omega arith, front-more _ _ _ _ (c .before .before .loop .inv .1) (omega arith) (c .first-like .ensures _ (omega arith)))
 
 returns : tie.Need-returns Inv-loop μ-loop
-returns c = (front-all _ _ _ _ (c .before .loop .inv .1) (omega arith), refl, c .before .loop .inv .1 .long)
+returns c = let inv = c .before .loop .inv in
+    record { long = inv .1 .long; names = front-all _ _ _ _ (inv .1) (omega arith); rounds = refl }
 
 pub initial-spec : {M : Type 1} → statement M
 initial-spec =
