@@ -18,12 +18,13 @@ pub fn settled(targets: &[u8], labels: &[u64], colours: &[u8; 256], n: usize) ->
     let first = partition::initial(colours, n);
     let mut p = first;
     let mut next = arrays::fresh();
-    members::follow(&p.names, n, &mut next);
-    let mut c = pairs::first_parted(targets, labels, &p.names, &next, n);
-    while c < n {
-        p = p.split(targets, labels, &next, n, c);
+    loop {
         members::follow(&p.names, n, &mut next);
-        c = pairs::first_parted(targets, labels, &p.names, &next, n);
+        let c = pairs::first_parted(targets, labels, &p.names, &next, n);
+        if n <= c {
+            break;
+        }
+        p = p.split(targets, labels, &next, n, c);
     }
     Ending {
         colours: members::count(&first.names, n),
