@@ -12,7 +12,7 @@ use Rattle.meaning.specs.Cases.{test, no-both, and-left, and-right}
 use Rattle.meaning.specs.Search.{any, at}
 use Rattle.meaning.specs.SearchLaws.{any-intro, any-elim, any-none}
 use Rattle.meaning.specs.Reduced.{apart, conflict}
-use Rattle.sets.specs.Sets.{holds}
+use Rattle.sets.specs.Sets.{holds, Lowest}
 use Rattle.sets.proofs.Laws.{holds-none}
 use Rattle.table.specs.Table.{Table, look}
 use Rattle.table.proofs.Laws.{look-some, look-none}
@@ -40,7 +40,8 @@ module _ (T : Table) (P : List ℕ) (a b : ℕ) where
   target s y = at (T .targets) (s * 64 + y)
 
   -- a label that is not in both sets parts nothing
-  unshared : (y : ℕ) → holds (at (T .labels) a) y && holds (at (T .labels) b) y ≡ false → apart P (look T a y) (look T b y) ≡ false
+  unshared : (y : ℕ) → holds (at (T .labels) a) y && holds (at (T .labels) b) y ≡ false
+      → apart P (look T a y) (look T b y) ≡ false
   unfolding apart
   unshared y e = test (holds (at (T .labels) a) y)
       (λ q. ap (apart P (look T a y)) (look-none T b y (sym (rw q) ∙ e)) ∙ apart-none P (look T a y))
@@ -67,27 +68,32 @@ module _ (T : Table) (P : List ℕ) (a b : ℕ) where
   }
 
   -- label k is tried, which leads the two states to u and v
-  module _ (rest k u v : ℕ) (calm : Calm rest) (low : k < 64) (there : holds rest k ≡ true) (to-u : u ≡ target a k) (to-v : v ≡ target b k) where
+  module _ (rest k u v : ℕ) (calm : Calm rest) (next : (k < 64) × Lowest rest k) (to-u : u ≡ target a k) (to-v : v ≡ target b k) where
     here : apart P (look T a k) (look T b k) ≡ not (eqb (at P u) (at P v))
-    here = rw (to-u, to-v) (both k low (calm .left k there) (calm .right k there))
+    here = let there = next .1 .there in rw (to-u, to-v) (both k (next .0) (calm .left k there) (calm .right k there))
 
-    pub calm-more : (rest′ : ℕ) → ((y : ℕ) → holds rest′ y ≡ (holds rest y && not (eqb k y))) → at P u ≡ at P v → Calm rest′
-    calm-more rest′ is same = record {
+    pub calm-more : (rest′ : ℕ) → ((k y : ℕ) → Lowest rest k → holds rest′ y ≡ (holds rest y && not (eqb k y))) → at P u ≡ at P v
+        → Calm rest′
+    calm-more rest′ without same = record {
       left = λ y q. calm .left y (kept y q);
       right = λ y q. calm .right y (kept y q);
       tried = λ y q. go y q (ℕ-discrete k y);
     }
       where
+        is : (y : ℕ) → holds rest′ y ≡ (holds rest y && not (eqb k y))
+        is y = without k y (next .1)
+
         kept : (y : ℕ) → holds rest′ y ≡ true → holds rest y ≡ true
         kept y q = and-left _ (not (eqb k y)) (sym (is y) ∙ q)
 
         go : (y : ℕ) → holds rest′ y ≡ false → Dec (k ≡ y) → apart P (look T a y) (look T b y) ≡ false
         go y q (yes e) = rw (← e) (here ∙ rw (eq-eqb _ _ same))
-        go y q (no e) = calm .tried y (test (holds rest y) (λ p. no-both {b = holds rest′ y} (is y ∙ rw (p, ne-eqb k y e)) q) (λ p. p))
+        go y q (no e) = calm .tried y
+            (test (holds rest y) (λ p. no-both {b = holds rest′ y} (is y ∙ rw (p, ne-eqb k y e)) q) (λ p. p))
 
     pub calm-broken : (at P u ≡ at P v → ⊥) → clash T P a b ≡ true
     unfolding conflict
-    calm-broken differ = any-intro (λ y. apart P (look T a y) (look T b y)) 64 k low (here ∙ rw (ne-eqb _ _ differ))
+    calm-broken differ = any-intro (λ y. apart P (look T a y) (look T b y)) 64 k (next .0) (here ∙ rw (ne-eqb _ _ differ))
 
   pub calm-all : (rest : ℕ) → Calm rest → rest ≡ 0 → clash T P a b ≡ false
   unfolding conflict
@@ -109,6 +115,7 @@ clash-labels T m few below = fun-ext λ P. fun-ext λ a. fun-ext λ b. test (any
         go none e = e
         go (some t) e = absurd (h (below s y t e))
 
-    go : (P : List ℕ) (a b : ℕ) → any (λ y. apart P (look T a y) (look T b y)) m ≡ false → (y : ℕ) → Dec (y < m) → apart P (look T a y) (look T b y) ≡ false
+    go : (P : List ℕ) (a b : ℕ) → any (λ y. apart P (look T a y) (look T b y)) m ≡ false → (y : ℕ) → Dec (y < m)
+        → apart P (look T a y) (look T b y) ≡ false
     go P a b q y (yes l) = any-none _ m y l q
     go P a b q y (no l) = ap (apart P (look T a y)) (none-there b y l) ∙ apart-none P (look T a y)

@@ -55,38 +55,50 @@ module _ (clashes : ℕ → ℕ → Bool) (P G : List ℕ) (c s : ℕ) where
   unfolding taken any
   marks-none = record { long = length-replicate {A = ℕ} 256 0; says = λ g h. blank 256 g }
 
-  taken-next : (g t : ℕ) → taken clashes P G c s g (t + 1) ≡ (eqb (at P t) c && (clashes t s && eqb (at G t) g)) || taken clashes P G c s g t
+  taken-next : (g t : ℕ)
+      → taken clashes P G c s g (t + 1) ≡ (eqb (at P t) c && (clashes t s && eqb (at G t) g)) || taken clashes P G c s g t
   unfolding taken any
   taken-next g t = rw (add-one t, any)
 
-  same-mark : (marks now : List ℕ) (t u : ℕ) → Marks clashes P G c s marks t → now ≡ marks → ((g : ℕ) → g < 256 → taken clashes P G c s g u ≡ taken clashes P G c s g t) → Marks clashes P G c s now u
+  same-mark : (marks now : List ℕ) (t u : ℕ) → Marks clashes P G c s marks t → now ≡ marks
+      → ((g : ℕ) → g < 256 → taken clashes P G c s g u ≡ taken clashes P G c s g t) → Marks clashes P G c s now u
   same-mark marks now t u r e h = record { long = rw e (r .long); says = λ g l. rw (e, h g l) (r .says g l) }
 
   -- states that are no members mark nothing
-  pub marks-skip : (marks : List ℕ) (t u : ℕ) → Marks clashes P G c s marks t → t ≤ u → ((x : ℕ) → t ≤ x → x < u → at P x ≡ c → ⊥) → Marks clashes P G c s marks u
+  pub marks-skip : (marks : List ℕ) (t u : ℕ) → Marks clashes P G c s marks t → t ≤ u → ((x : ℕ) → t ≤ x → x < u → at P x ≡ c → ⊥)
+      → Marks clashes P G c s marks u
   unfolding taken
   marks-skip marks t u r l h = same-mark marks marks t u r refl (λ g _. any-skip _ t u l (λ x k b. rw (ne-eqb _ _ (h x k b))))
 
-  pub marks-calm : (marks now : List ℕ) (t : ℕ) → Marks clashes P G c s marks t → now ≡ marks → clashes t s ≡ false → Marks clashes P G c s now (t + 1)
+  pub marks-calm : (marks now : List ℕ) (t : ℕ) → Marks clashes P G c s marks t → now ≡ marks → clashes t s ≡ false
+      → Marks clashes P G c s now (t + 1)
   marks-calm marks now t r e h = same-mark marks now t (t + 1) r e (λ g _. taken-next g t ∙ rw (h, and-false (eqb (at P t) c)))
 
   -- a group that is marked needs no other member
-  pub marks-again : (marks now : List ℕ) (t : ℕ) → Marks clashes P G c s marks t → now ≡ marks → at G t < 256 → (at marks (at G t) ≡ 0 → ⊥) → Marks clashes P G c s now (t + 1)
-  marks-again marks now t r e l h = same-mark marks now t (t + 1) r e (λ g k. taken-next g t ∙ test (eqb (at G t) g) (same g) (other g))
+  pub marks-again : (marks now : List ℕ) (t : ℕ) → Marks clashes P G c s marks t → now ≡ marks → at G t < 256
+      → (at marks (at G t) ≡ 0 → ⊥) → Marks clashes P G c s now (t + 1)
+  marks-again marks now t r e l h =
+      same-mark marks now t (t + 1) r e (λ g k. taken-next g t ∙ test (eqb (at G t) g) (same g) (other g))
     where
       marked : taken clashes P G c s (at G t) t ≡ true
       marked = test (taken clashes P G c s (at G t) t) (λ q. q) (λ q. absurd (h (r .says (at G t) l ∙ rw q)))
 
-      same : (g : ℕ) → eqb (at G t) g ≡ true → (eqb (at P t) c && (clashes t s && eqb (at G t) g)) || taken clashes P G c s g t ≡ taken clashes P G c s g t
-      same g q = let all : taken clashes P G c s g t ≡ true = ap (λ (k : ℕ). taken clashes P G c s k t) (sym (eqb-true (at G t) g q)) ∙ marked in
+      same : (g : ℕ) → eqb (at G t) g ≡ true
+          → (eqb (at P t) c && (clashes t s && eqb (at G t) g)) || taken clashes P G c s g t ≡ taken clashes P G c s g t
+      same g q =
+          let all : taken clashes P G c s g t ≡ true = ap (λ (k : ℕ). taken clashes P G c s k t) (sym (eqb-true (at G t) g q))
+          ∙ marked in
           rw (all, or-right (eqb (at P t) c && (clashes t s && eqb (at G t) g)) refl)
 
-      other : (g : ℕ) → eqb (at G t) g ≡ false → (eqb (at P t) c && (clashes t s && eqb (at G t) g)) || taken clashes P G c s g t ≡ taken clashes P G c s g t
+      other : (g : ℕ) → eqb (at G t) g ≡ false
+          → (eqb (at P t) c && (clashes t s && eqb (at G t) g)) || taken clashes P G c s g t ≡ taken clashes P G c s g t
       other g q = rw (q, and-false (clashes t s), and-false (eqb (at P t) c))
 
-  pub marks-more : (marks now : List ℕ) (t g : ℕ) → Marks clashes P G c s marks t → now ≡ set marks g 1 → g ≡ at G t → at P t ≡ c → clashes t s ≡ true → at G t < 256
+  pub marks-more : (marks now : List ℕ) (t g : ℕ) → Marks clashes P G c s marks t → now ≡ set marks g 1 → g ≡ at G t → at P t ≡ c
+      → clashes t s ≡ true → at G t < 256
       → Marks clashes P G c s now (t + 1)
-  marks-more marks now t g r u v e k l = rw (u, v) record { long = length-set marks (at G t) 1 ∙ r .long; says = λ g h. test (eqb (at G t) g) (same g) (other g h) }
+  marks-more marks now t g r u v e k l =
+      rw (u, v) record { long = length-set marks (at G t) 1 ∙ r .long; says = λ g h. test (eqb (at G t) g) (same g) (other g h) }
     where
       here : (g : ℕ) → taken clashes P G c s g (t + 1) ≡ eqb (at G t) g || taken clashes P G c s g t
       here g = taken-next g t ∙ rw (eq-eqb _ _ e, k)
@@ -107,7 +119,8 @@ module _ (clashes : ℕ → ℕ → Bool) (P G : List ℕ) (c s : ℕ) where
   bit-zero true = refl
   bit-zero false = refl
 
-  pub group-marked : (marks : List ℕ) → s < 256 → at P s ≡ c → Marks clashes P G c s marks s → least (λ g. eqb (at marks g) 0) s ≡ group clashes P c G s
+  pub group-marked : (marks : List ℕ) → s < 256 → at P s ≡ c → Marks clashes P G c s marks s
+      → least (λ g. eqb (at marks g) 0) s ≡ group clashes P c G s
   unfolding group
   group-marked marks l e r =
       rw (group, eq-eqb (at P s) c e)
@@ -141,7 +154,8 @@ module _ (clashes : ℕ → ℕ → Bool) (P : List ℕ) (c : ℕ) where
   group-front G s = ap (λ (k : ℕ). elim (member s) as (λ x. ℕ) [ true ↦ k | false ↦ 0 ])
       (least-cong _ _ s (λ g h. ap not (any-cong _ _ s (λ t l. ap (λ (k : ℕ). member t && (clashes t s && eqb k g)) (sym (at-take G s t l))))))
 
-  pub grouped-more : (G : List ℕ) (s v : ℕ) → Grouped clashes P c G s → s < 256 → v ≡ group clashes P c G s → Grouped clashes P c (set G s v) (s + 1)
+  pub grouped-more : (G : List ℕ) (s v : ℕ) → Grouped clashes P c G s → s < 256 → v ≡ group clashes P c G s
+      → Grouped clashes P c (set G s v) (s + 1)
   unfolding groups next
   grouped-more G s v r l e = record {
     long = length-set G s v ∙ r .long;
@@ -170,7 +184,8 @@ module _ (clashes : ℕ → ℕ → Bool) (P : List ℕ) (c : ℕ) where
     rest = λ t k. r .rest t (omega arith);
   }
 
-  pub grouped-skip : (G : List ℕ) (s u : ℕ) → Grouped clashes P c G s → s ≤ u → u ≤ 256 → ((x : ℕ) → s ≤ x → x < u → at P x ≡ c → ⊥) → Grouped clashes P c G u
+  pub grouped-skip : (G : List ℕ) (s u : ℕ) → Grouped clashes P c G s → s ≤ u → u ≤ 256
+      → ((x : ℕ) → s ≤ x → x < u → at P x ≡ c → ⊥) → Grouped clashes P c G u
   grouped-skip G s zero r h l miss = let e : s ≡ 0 = omega arith in subst (Grouped clashes P c G) e r
   grouped-skip G s (suc u) r h l miss = test (eqb s (suc u))
       (λ q. subst (Grouped clashes P c G) (eqb-true s (suc u) q) r)

@@ -23,7 +23,8 @@ pub record Hop (P : List ℕ) (n c a b : ℕ) : Type 0 where
   pub member : b < n → at P b ≡ c
   pub gap : (x : ℕ) → a < x → x < b → at P x ≡ c → ⊥
 
-pub hop : (P : List ℕ) (n : ℕ) (next : List ℕ) → Linked P n next → (c a b : ℕ) → a < n → at P a ≡ c → b ≡ at next a → Hop P n c a b
+pub hop : (P : List ℕ) (n : ℕ) (next : List ℕ) → Linked P n next → (c a b : ℕ) → a < n → at P a ≡ c → b ≡ at next a
+    → Hop P n c a b
 hop P n next r c a b h e k = rw k record {
   after = r .behind a h;
   inside = r .inside a h;
@@ -65,7 +66,8 @@ pub record Chained (P : List ℕ) (n : ℕ) (next nearest : List ℕ) (s : ℕ) 
   pub named : (c : ℕ) → c < 256 → at nearest c < n → at P (at nearest c) ≡ c
   pub first : (c u : ℕ) → c < 256 → s ≤ u → u < at nearest c → at P u ≡ c → ⊥
 
-pub chained-none : (P : List ℕ) (n : ℕ) (next nearest : List ℕ) → length next ≡ 256 → nearest ≡ replicate 256 n → Chained P n next nearest n
+pub chained-none : (P : List ℕ) (n : ℕ) (next nearest : List ℕ) → length next ≡ 256 → nearest ≡ replicate 256 n
+    → Chained P n next nearest n
 chained-none P n next nearest e q = rw q record {
   long = e;
   wide = length-replicate {A = ℕ} 256 n;

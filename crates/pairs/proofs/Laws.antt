@@ -102,7 +102,8 @@ module _ (clashes : ℕ → ℕ → Bool) (P : List ℕ) (c : ℕ) where
       past = through _ a b (λ x h. against-low a x (omega arith)) (against-low a a (omega arith)) (λ x h l. against-other a x (next .gap x h l));
     }
 
-    pub inner-more : (found found′ : Found) (a b b′ : ℕ) → Inner a found b → found′ ≡ Nothing → clashes a b ≡ false → Hop P n c b b′ → Inner a found′ b′
+    pub inner-more : (found found′ : Found) (a b b′ : ℕ) → Inner a found b → found′ ≡ Nothing → clashes a b ≡ false
+        → Hop P n c b b′ → Inner a found′ b′
     inner-more found found′ a b b′ there none calm next = record {
       inside = next .inside;
       member = next .member;
@@ -111,7 +112,8 @@ module _ (clashes : ℕ → ℕ → Bool) (P : List ℕ) (c : ℕ) where
       past = through _ b b′ (there .past) (against-calm a b calm) (λ x h l. against-other a x (next .gap x h l));
     }
 
-    pub outer-more : (found found′ : Found) (a a′ b : ℕ) → Outer found a → Inner a found′ b → n ≤ b → Hop P n c a a′ → Outer found′ a′
+    pub outer-more : (found found′ : Found) (a a′ b : ℕ) → Outer found a → Inner a found′ b → n ≤ b → Hop P n c a a′
+        → Outer found′ a′
     outer-more found found′ a a′ b out there all next = record {
       inside = next .inside;
       member = next .member;
@@ -122,7 +124,8 @@ module _ (clashes : ℕ → ℕ → Bool) (P : List ℕ) (c : ℕ) where
     pub outer-all : (found : Found) (a : ℕ) → Outer found a → n ≤ a → found ≡ foundOf n clashes P c
     outer-all found a out all = out .nothing ∙ found-none n (λ x h. out .past x (omega arith))
 
-    pub inner-found : (found found′ : Found) (a b : ℕ) → Outer found a → Inner a found′ b → a < n → b < n → clashes a b ≡ true → Pair a b ≡ foundOf n clashes P c
+    pub inner-found : (found found′ : Found) (a b : ℕ) → Outer found a → Inner a found′ b → a < n → b < n → clashes a b ≡ true
+        → Pair a b ≡ foundOf n clashes P c
     inner-found found found′ a b out there ha hb hit =
         found-here n a b ha hb (out .member ha) (against-here a b (there .after) (there .member hb) hit) (out .past) (there .past)
 
@@ -136,7 +139,8 @@ module _ (clashes : ℕ → ℕ → Bool) (P : List ℕ) (c : ℕ) where
     unfolding foundOf
     parted-none h = test (parted n clashes P c) (λ q. go (ltb lowest n) refl h q) (λ q. q)
       where
-        go : (x : Bool) → ltb lowest n ≡ x → Nothing ≡ pick x (Pair lowest (least (against clashes P c lowest) n)) Nothing → parted n clashes P c ≡ true → parted n clashes P c ≡ false
+        go : (x : Bool) → ltb lowest n ≡ x → Nothing ≡ pick x (Pair lowest (least (against clashes P c lowest) n)) Nothing
+            → parted n clashes P c ≡ true → parted n clashes P c ≡ false
         go true e k q = let z : _≡_ {A = ℕ} 0 1 = cc in absurd (omega arith)
         go false e k q =
             let w = pair n clashes P c q in
@@ -163,7 +167,8 @@ module _ (clashes : ℕ → ℕ → Bool) (P : List ℕ) (c : ℕ) where
     unfolding foundOf
     parted-pair a b h = go (ltb lowest n) refl h
       where
-        go : (x : Bool) → ltb lowest n ≡ x → Pair a b ≡ pick x (Pair lowest (least (against clashes P c lowest) n)) Nothing → parted n clashes P c ≡ true
+        go : (x : Bool) → ltb lowest n ≡ x → Pair a b ≡ pick x (Pair lowest (least (against clashes P c lowest) n)) Nothing
+            → parted n clashes P c ≡ true
         go false e k = let z : _≡_ {A = ℕ} 0 1 = cc in absurd (omega arith)
         go true e k = opposed-parts lowest (least-ok (opposed n clashes P c) n (ltb-true lowest n e))
 
@@ -178,7 +183,8 @@ parted-front n clashes P c = any-cong _ _ n (λ t h. ap₂ _&&_ (same t h) (any-
     same s h = ap (λ (k : ℕ). eqb k c) (sym (at-take P n s h))
 
 -- a state that is not its own name names no class, and so parts none
-pub parted-own : (n : ℕ) (clashes : ℕ → ℕ → Bool) (P : List ℕ) → Named n (take n P) → (c : ℕ) → c < n → (at P c ≡ c → ⊥) → parted n clashes P c ≡ false
+pub parted-own : (n : ℕ) (clashes : ℕ → ℕ → Bool) (P : List ℕ) → Named n (take n P) → (c : ℕ) → c < n → (at P c ≡ c → ⊥)
+    → parted n clashes P c ≡ false
 parted-own n clashes P nm c h e = test (parted n clashes P c)
     (λ q. absurd (e (sym (at-take P n c h) ∙ name-own n clashes (take n P) nm c h (sym (parted-front n clashes P c) ∙ q))))
     (λ q. q)

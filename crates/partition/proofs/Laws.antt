@@ -16,7 +16,8 @@ use Rattle.partition.specs.Partition.{twin, rounded}
 
 -- ---- colours
 
-pub twin-here : (hues : List ℕ) (n s t : ℕ) → t < n → at hues t ≡ at hues s → ((k : ℕ) → k < t → eqb (at hues k) (at hues s) ≡ false) → t ≡ twin hues n s
+pub twin-here : (hues : List ℕ) (n s t : ℕ) → t < n → at hues t ≡ at hues s
+    → ((k : ℕ) → k < t → eqb (at hues k) (at hues s) ≡ false) → t ≡ twin hues n s
 unfolding twin
 twin-here hues n s t l e h = sym (least-is (λ k. eqb (at hues k) (at hues s)) n t l (eq-eqb _ _ e) h)
 
@@ -32,7 +33,8 @@ unfolding tab
 front-none f xs h = record { long = h; front = refl }
 
 pub front-more : (f : ℕ → ℕ) (xs : List ℕ) (i v : ℕ) → Front f xs i → i < 256 → v ≡ f i → Front f (set xs i v) (i + 1)
-front-more f xs i v r l e = record { long = length-set xs i v ∙ r .long; front = fill xs i v f (omega (arith, r .long)) (r .front) e }
+front-more f xs i v r l e =
+    record { long = length-set xs i v ∙ r .long; front = fill xs i v f (omega (arith, r .long)) (r .front) e }
 
 pub front-all : (f : ℕ → ℕ) (xs : List ℕ) (i n : ℕ) → Front f xs i → i ≡ n → take n xs ≡ tab n f
 front-all f xs i n r e = subst (λ (k : ℕ). take k xs ≡ tab k f) e (r .front)
@@ -130,7 +132,8 @@ module _ (n : ℕ) (P : List ℕ) (c : ℕ) (G : List ℕ) where
         least = w .least;
       }
 
-      named : (f : ℕ) → f ≡ renamed n P c G s → (firsts′ : List ℕ) → length firsts′ ≡ 256 → ((d : ℕ) → d < 256 → First (s + 1) d (at firsts′ d))
+      named : (f : ℕ) → f ≡ renamed n P c G s → (firsts′ : List ℕ) → length firsts′ ≡ 256
+          → ((d : ℕ) → d < 256 → First (s + 1) d (at firsts′ d))
           → Renamed (set names s f) firsts′ (s + 1)
       named f q firsts′ l w = record {
         long = length-set names s f ∙ r .long;
@@ -146,8 +149,10 @@ module _ (n : ℕ) (P : List ℕ) (c : ℕ) (G : List ℕ) where
       Next firsts′ d = Renamed (set names s (at firsts′ d)) firsts′ (s + 1)
 
       -- s is the first of its group
-      pub renamed-new : (firsts′ : List ℕ) (d : ℕ) → d ≡ g → firsts′ ≡ set firsts d s → d < 256 → at firsts d ≡ 65535 → Next firsts′ d
-      renamed-new firsts′ d same = subst (λ (d : ℕ). firsts′ ≡ set firsts d s → d < 256 → at firsts d ≡ 65535 → Next firsts′ d) (sym same) go
+      pub renamed-new : (firsts′ : List ℕ) (d : ℕ) → d ≡ g → firsts′ ≡ set firsts d s → d < 256 → at firsts d ≡ 65535
+          → Next firsts′ d
+      renamed-new firsts′ d same =
+          subst (λ (d : ℕ). firsts′ ≡ set firsts d s → d < 256 → at firsts d ≡ 65535 → Next firsts′ d) (sym same) go
         where
           go : firsts′ ≡ set firsts g s → g < 256 → at firsts g ≡ 65535 → Next firsts′ g
           go u l z =
@@ -168,8 +173,10 @@ module _ (n : ℕ) (P : List ℕ) (c : ℕ) (G : List ℕ) where
               rw there (other d (at firsts d) (r .known d k) z))))
 
       -- its group has a first member already
-      pub renamed-again : (firsts′ : List ℕ) (d : ℕ) → d ≡ g → firsts′ ≡ firsts → d < 256 → (at firsts d ≡ 65535 → ⊥) → Next firsts′ d
-      renamed-again firsts′ d same = subst (λ (d : ℕ). firsts′ ≡ firsts → d < 256 → (at firsts d ≡ 65535 → ⊥) → Next firsts′ d) (sym same) go
+      pub renamed-again : (firsts′ : List ℕ) (d : ℕ) → d ≡ g → firsts′ ≡ firsts → d < 256 → (at firsts d ≡ 65535 → ⊥)
+          → Next firsts′ d
+      renamed-again firsts′ d same =
+          subst (λ (d : ℕ). firsts′ ≡ firsts → d < 256 → (at firsts d ≡ 65535 → ⊥) → Next firsts′ d) (sym same) go
         where
           go : firsts′ ≡ firsts → g < 256 → (at firsts g ≡ 65535 → ⊥) → Next firsts′ g
           go u l z = rw u
@@ -192,13 +199,16 @@ module _ (n : ℕ) (P : List ℕ) (c : ℕ) (G : List ℕ) where
   unfolding tab
   front-by zero f xs l h = refl
   front-by (suc k) f [] l h = absurd (omega arith)
-  front-by (suc k) f (x ∷ xs) l h = ap₂ _∷_ (h 0 (omega arith)) (front-by k (λ i. f (suc i)) xs (omega arith) (λ t m. h (suc t) (omega arith)))
+  front-by (suc k) f (x ∷ xs) l h =
+      ap₂ _∷_ (h 0 (omega arith)) (front-by k (λ i. f (suc i)) xs (omega arith) (λ t m. h (suc t) (omega arith)))
 
-  pub renamed-all : (names firsts : List ℕ) (s : ℕ) → Renamed names firsts s → n ≤ s → n ≤ 256 → take n names ≡ tab n (renamed n P c G)
+  pub renamed-all : (names firsts : List ℕ) (s : ℕ) → Renamed names firsts s → n ≤ s → n ≤ 256
+      → take n names ≡ tab n (renamed n P c G)
   renamed-all names firsts s r h l = front-by n (renamed n P c G) names (omega (arith, r .long)) (λ t k. r .done t (omega arith))
 
 -- a round's names, from groups that stand at the front of a list
-pub rounded-by : (n : ℕ) (clashes : ℕ → ℕ → Bool) (P : List ℕ) (c : ℕ) (G : List ℕ) → take n G ≡ groups (λ s. eqb (at P s) c) clashes n
+pub rounded-by : (n : ℕ) (clashes : ℕ → ℕ → Bool) (P : List ℕ) (c : ℕ) (G : List ℕ)
+    → take n G ≡ groups (λ s. eqb (at P s) c) clashes n
     → tab n (renamed n P c G) ≡ rounded groups n clashes P c
 unfolding rounded split renamed
 rounded-by n clashes P c G h = tab-cong n _ _ each ∙ ap (split n P c) h

@@ -27,7 +27,8 @@ use Rattle.partition.specs.declared.Partition.{Partition}
 use Rattle.rounds.specs.Rounds.{taskOf, everyone, Reducible}
 
 -- where no label of a table is m or more, the task is that of m labels
-pub task-labels : (live : ℕ → Bool) (group : Grouping) (T : Table) (hues : List ℕ) (m n : ℕ) → m ≤ 64 → ((s y t : ℕ) → look T s y ≡ some t → y < m)
+pub task-labels : (live : ℕ → Bool) (group : Grouping) (T : Table) (hues : List ℕ) (m n : ℕ) → m ≤ 64
+    → ((s y t : ℕ) → look T s y ≡ some t → y < m)
     → taskOf live group T hues n ≡ taskOver live group (look T) (at hues) m n
 task-labels live group T hues m n few below = ap
     (λ (f : List ℕ → ℕ → ℕ → Bool). record { size = n; live = live; colour = at hues; conflict = f; group = λ mem clash. group mem clash n })
@@ -74,11 +75,13 @@ classes-front n P = count-cong (named P) (named (take n P)) n (λ s h. ap (λ (k
 
 -- names of targets are names of states
 module _ (T : Table) (n : ℕ) (inside : (s y t : ℕ) → look T s y ≡ some t → t < n) (P : List ℕ) where
-  apart-front : (o q : Option ℕ) → ((t : ℕ) → o ≡ some t → t < n) → ((t : ℕ) → q ≡ some t → t < n) → apart P o q ≡ apart (take n P) o q
+  apart-front : (o q : Option ℕ) → ((t : ℕ) → o ≡ some t → t < n) → ((t : ℕ) → q ≡ some t → t < n)
+      → apart P o q ≡ apart (take n P) o q
   unfolding apart
   apart-front none q h k = refl
   apart-front (some a) none h k = refl
-  apart-front (some a) (some b) h k = ap₂ (λ (x y : ℕ). not (eqb x y)) (sym (at-take P n a (h a refl))) (sym (at-take P n b (k b refl)))
+  apart-front (some a) (some b) h k =
+      ap₂ (λ (x y : ℕ). not (eqb x y)) (sym (at-take P n a (h a refl))) (sym (at-take P n b (k b refl)))
 
   clash-front : clash T P ≡ clash T (take n P)
   unfolding conflict
@@ -111,7 +114,8 @@ module _ (T : Table) (hues : List ℕ) (n : ℕ) where
 
     chosen-front : (P : List ℕ) → first n (clash T P) P ≡ chosen task (take n P)
     unfolding chosen
-    chosen-front P = ap (λ (f : ℕ → ℕ → Bool). first n f P) (clash-front T n (lent .inside) P) ∙ first-front n (clash T (take n P)) P
+    chosen-front P =
+        ap (λ (f : ℕ → ℕ → Bool). first n f P) (clash-front T n (lent .inside) P) ∙ first-front n (clash T (take n P)) P
 
     round-front : (P : List ℕ) (c : ℕ) → rounded groups n (clash T P) P c ≡ round task (take n P) c
     unfolding rounded round
@@ -167,7 +171,8 @@ module _ (T : Table) (hues : List ℕ) (n : ℕ) where
           let hit : parted n (clash T P) P c ≡ true = rw e (least-ok (parted n (clash T P) P) n (omega (arith, e))) in
           heads n P running-named c l (test (eqb (at P c) c) (λ q. eqb-true _ _ q) (λ q. no-both hit (parted-own n (clash T P) P running-named c l (eqb-false _ _ q))))
 
-      pub running-on : (R : Partition) (c : ℕ) → c ≡ taken Q → c < n → Holds R n (rounded groups n (clash T (Q .names)) (Q .names) c) (Q .rounds + 1) → Running R
+      pub running-on : (R : Partition) (c : ℕ) → c ≡ taken Q → c < n
+          → Holds R n (rounded groups n (clash T (Q .names)) (Q .names) c) (Q .rounds + 1) → Running R
       unfolding cut run
       running-on R c e l h = go (r .rest) (r .counted) (r .goes)
         where
@@ -199,4 +204,5 @@ module _ (T : Table) (hues : List ℕ) (n : ℕ) where
         where
           go : (f : ℕ) → run f task (now Q) ≡ now Q
           go zero = refl
-          go (suc f) = let q : n ≤ chosen task (take n (Q .names)) = omega (arith, e ∙ chosen-front (Q .names)) in rw (run, le-ltb _ _ q)
+          go (suc f) =
+              let q : n ≤ chosen task (take n (Q .names)) = omega (arith, e ∙ chosen-front (Q .names)) in rw (run, le-ltb _ _ q)

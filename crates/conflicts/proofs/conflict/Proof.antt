@@ -18,19 +18,21 @@ loop-holds c = calm-begun _ _ _ _ _ (c .shared .ensures)
 
 returns : tie.Need-returns Inv-loop μ-loop
 returns c =
+    let loop = c .before .before .before .before .before .before .before .loop in
     let lowest = c .before .before .before .before .before .lowest .ensures in
-    sym (calm-broken _ _ _ _ _ _ _ _ (c .before .before .before .before .before .before .before .loop .inv) (lowest .0) (lowest .1 .there)
-    (c .before .before .before .before .target .ensures .0) (c .before .before .target2 .ensures .0) (c .if1 .taken))
+    let left = c .before .before .before .before .target .ensures .0 in
+    sym (calm-broken _ _ _ _ _ _ _ _ (loop .inv) lowest left (c .before .before .target2 .ensures .0) (c .if1 .taken))
 
 loop-less : tie.Need-loop-less Inv-loop μ-loop
 loop-less c = c .without-lowest .ensures .0
 
 loop-again : tie.Need-loop-again Inv-loop μ-loop
 loop-again c =
+    let loop = c .before .before .before .before .before .before .before .before .loop in
     let lowest = c .before .before .before .before .before .before .lowest .ensures in
-    calm-more _ _ _ _ _ _ _ _ (c .before .before .before .before .before .before .before .before .loop .inv) (lowest .0) (lowest .1 .there)
-    (c .before .before .before .before .before .target .ensures .0) (c .before .before .before .target2 .ensures .0)
-    _ (λ y. c .without-lowest .ensures .1 _ y (lowest .1)) (c .before .if1 .left)
+    let left = c .before .before .before .before .before .target .ensures .0 in
+    let right = c .before .before .before .target2 .ensures .0 in
+    calm-more _ _ _ _ _ _ _ _ (loop .inv) lowest left right _ (c .without-lowest .ensures .1) (c .before .if1 .left)
 
 returns-2 : tie.Need-returns-2 Inv-loop μ-loop
 returns-2 c = sym (calm-all _ _ _ _ _ (c .before .loop .inv) (omega arith))

@@ -1,5 +1,5 @@
--- `pairs::pair_in` meets its contract. The invariants: no member before a conflicts with a later one, a with none before b, and no
--- label that is tried parts a and b. Assumes nothing.
+-- `pairs::pair_in` meets its contract. The invariants: no member before a conflicts with a later one, nor a with one before b, and
+-- no label that is tried parts a and b. Assumes nothing.
 use Prim.Native.Nat.{_-_}
 use borrow.Author.Needs.{needs}
 use native.Mathlib.Omega.{arith}
@@ -14,7 +14,8 @@ use Rattle.pairs.proofs.pair_in.Statement.{statement}
 use Rattle.pairs.proofs.pair_in.Tie as tie
 
 abbrev Inv-loop2 : tie.InvT-loop2
-Inv-loop2 targets labels names next n c found₀ a b rest₀ found rest = (found ≡ Nothing) × Calm (table targets labels) names a b rest
+Inv-loop2 targets labels names next n c found₀ a b rest₀ found rest =
+    (found ≡ Nothing) × Calm (table targets labels) names a b rest
 
 abbrev μ-loop2 : tie.MeasureT-loop2
 μ-loop2 targets labels names next n c found₀ a b rest₀ found rest = rest
@@ -36,9 +37,10 @@ search-holds c = outer-begun _ _ _ _ (c .before .before .pre .1)
 
 loop-holds : tie.Need-loop-holds Inv-loop2 μ-loop2 Inv-loop μ-loop Inv-search μ-search
 loop-holds c =
-    let search = c .before .before .before .search in
+    let search = c .before .before .before in
     let here = c .before .before .search-test .taken in
-    inner-begun _ _ _ _ _ _ _ (search .inv) (hop _ _ _ (c .before .before .before .before .before .before .pre .0 .linked) _ (search .a) _ here (search .inv .member here) (c .wide .ensures))
+    let next = hop _ _ _ (search .before .before .before .pre .0 .linked) _ (search .search .a) _ here (search .search .inv .member here) (c .wide .ensures) in
+    inner-begun _ _ _ _ _ _ _ (search .search .inv) next
 
 loop2-holds : tie.Need-loop2-holds Inv-loop2 μ-loop2 Inv-loop μ-loop Inv-search μ-search
 loop2-holds c = (c .before .before .before .before .loop .inv .nothing, calm-begun _ _ _ _ _ (c .shared .ensures))
@@ -48,50 +50,60 @@ loop2-less c = c .without-lowest .ensures .0
 
 loop2-again : tie.Need-loop2-again Inv-loop2 μ-loop2 Inv-loop μ-loop Inv-search μ-search
 loop2-again c =
+    let inv = c .before .before .before .before .before .before .before .before .loop2 .inv in
     let lowest = c .before .before .before .before .before .before .lowest .ensures in
-    let inv = c .before .before .before .before .before .before .before .before .loop2 .inv in (
-      inv .0,
-      calm-more _ _ _ _ _ _ _ _ (inv .1) (lowest .0) (lowest .1 .there) (c .before .before .before .before .before .target .ensures .0) (c .before .before .before .target2 .ensures .0)
-          _ (λ y. c .without-lowest .ensures .1 _ y (lowest .1)) (c .before .if1 .left),
-    )
+    let left = c .before .before .before .before .before .target .ensures .0 in
+    let right = c .before .before .before .target2 .ensures .0 in
+    (inv .0, calm-more _ _ _ _ _ _ _ _ (inv .1) lowest left right _ (c .without-lowest .ensures .1) (c .before .if1 .left))
 
 loop-less : tie.Need-loop-less Inv-loop2 μ-loop2 Inv-loop μ-loop Inv-search μ-search
 loop-less c =
-    let loop = c .before .before .before .before .before .before .before .before .loop in
-    let here = c .before .before .before .before .before .before .before .loop-test .taken in
-    let next = hop _ _ _ (c .before .before .before .before .before .before .before .before .before .before .before .before .before .before .before .pre .0 .linked) _ (loop .b) _ here (loop .inv .member here) (c .wide2 .ensures) in
+    let tried = c .before .before .before in
+    let loop = tried .before .before .before .before .before in
+    let here = tried .before .before .before .before .loop-test .taken in
+    let linked = loop .before .before .before .before .before .before .before .pre .0 .linked in
+    let next = hop _ _ _ linked _ (loop .loop .b) _ here (loop .loop .inv .member here) (c .wide2 .ensures) in
     omega (arith, next .after, next .inside)
 
 loop-again : tie.Need-loop-again Inv-loop2 μ-loop2 Inv-loop μ-loop Inv-search μ-search
 loop-again c =
-    let loop = c .before .before .before .before .before .before .before .before .loop in
-    let here = c .before .before .before .before .before .before .before .loop-test .taken in
-    let next = hop _ _ _ (c .before .before .before .before .before .before .before .before .before .before .before .before .before .before .before .pre .0 .linked) _ (loop .b) _ here (loop .inv .member here) (c .wide2 .ensures) in
-    let tried = c .before .before .before .loop2 .inv in
-    inner-more _ _ _ _ _ _ _ _ _ (loop .inv) (tried .0) (calm-all _ _ _ _ _ (tried .1) (omega (arith, c .before .before .loop2-test .left))) next
+    let tried = c .before .before .before in
+    let loop = tried .before .before .before .before .before in
+    let here = tried .before .before .before .before .loop-test .taken in
+    let linked = loop .before .before .before .before .before .before .before .pre .0 .linked in
+    let next = hop _ _ _ linked _ (loop .loop .b) _ here (loop .loop .inv .member here) (c .wide2 .ensures) in
+    let calm = calm-all _ _ _ _ _ (tried .loop2 .inv .1) (omega (arith, c .before .before .loop2-test .left)) in
+    inner-more _ _ _ _ _ _ _ _ _ (loop .loop .inv) (tried .loop2 .inv .0) calm next
 
 search-less : tie.Need-search-less Inv-loop2 μ-loop2 Inv-loop μ-loop Inv-search μ-search
 search-less c =
-    let search = c .before .before .before .before .before .before .before .search in
+    let search = c .before .before .before .before .before .before .before in
     let here = c .before .before .before .before .before .before .search-test .taken in
-    let next = hop _ _ _ (c .before .before .before .before .before .before .before .before .before .before .pre .0 .linked) _ (search .a) _ here (search .inv .member here) (c .wide3 .ensures) in
+    let next = hop _ _ _ (search .before .before .before .pre .0 .linked) _ (search .search .a) _ here (search .search .inv .member here) (c .wide3 .ensures) in
     omega (arith, next .after, next .inside)
 
 search-again : tie.Need-search-again Inv-loop2 μ-loop2 Inv-loop μ-loop Inv-search μ-search
 search-again c =
-    let search = c .before .before .before .before .before .before .before .search in
+    let search = c .before .before .before .before .before .before .before in
     let here = c .before .before .before .before .before .before .search-test .taken in
-    let next = hop _ _ _ (c .before .before .before .before .before .before .before .before .before .before .pre .0 .linked) _ (search .a) _ here (search .inv .member here) (c .wide3 .ensures) in
-    outer-more _ _ _ _ _ _ _ _ _ (search .inv) (c .before .before .before .loop .inv) (c .before .before .loop-test .left) next
+    let next = hop _ _ _ (search .before .before .before .pre .0 .linked) _ (search .search .a) _ here (search .search .inv .member here) (c .wide3 .ensures) in
+    outer-more _ _ _ _ _ _ _ _ _ (search .search .inv) (c .before .before .before .loop .inv) (c .before .before .loop-test .left) next
 
 returns : tie.Need-returns Inv-loop2 μ-loop2 Inv-loop μ-loop Inv-search μ-search
 returns c = outer-all _ _ _ _ _ _ (c .before .search .inv) (c .search-test .left)
 
 returns-2 : tie.Need-returns-2 Inv-loop2 μ-loop2 Inv-loop μ-loop Inv-search μ-search
 returns-2 c =
+    let tried = c .before .before .before .before .before .before .before in
+    let loop = tried .before .before .before .before .before in
+    let search = loop .before .before .before .before in
     let lowest = c .before .before .before .before .before .lowest .ensures in
-    inner-found _ _ _ _ _ _ _ _ (c .before .before .before .before .before .before .before .before .before .before .before .before .before .before .before .before .search .inv) (c .before .before .before .before .before .before .before .before .before .before .before .before .loop .inv) (c .before .before .before .before .before .before .before .before .before .before .before .before .before .before .before .search-test .taken) (c .before .before .before .before .before .before .before .before .before .before .before .loop-test .taken)
-    (calm-broken _ _ _ _ _ _ _ _ (c .before .before .before .before .before .before .before .loop2 .inv .1) (lowest .0) (lowest .1 .there) (c .before .before .before .before .target .ensures .0) (c .before .before .target2 .ensures .0) (c .if1 .taken))
+    let left = c .before .before .before .before .target .ensures .0 in
+    let right = c .before .before .target2 .ensures .0 in
+    let hit = calm-broken _ _ _ _ _ _ _ _ (tried .loop2 .inv .1) lowest left right (c .if1 .taken) in
+    let in-search = loop .before .before .before .search-test .taken in
+    let in-loop = tried .before .before .before .before .loop-test .taken in
+    inner-found _ _ _ _ _ _ _ _ (search .search .inv) (loop .loop .inv) in-search in-loop hit
 
 pub pair-in-spec : {M : Type 1} → statement M
 pair-in-spec =

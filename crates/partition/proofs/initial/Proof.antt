@@ -18,7 +18,8 @@ loop-holds : tie.Need-loop-holds Inv-loop μ-loop
 loop-holds c = (omega arith, front-none _ _ (c .fresh .ensures .1))
 
 loop-again : tie.Need-loop-again Inv-loop μ-loop
-loop-again c = (omega arith, front-more _ _ _ _ (c .before .before .loop .inv .1) (omega arith) (c .first-like .ensures _ (omega arith)))
+loop-again c =
+    (omega arith, front-more _ _ _ _ (c .before .before .loop .inv .1) (omega arith) (c .first-like .ensures _ (omega arith)))
 
 returns : tie.Need-returns Inv-loop μ-loop
 returns c = let inv = c .before .loop .inv in

@@ -17,46 +17,60 @@ abbrev μ-loop : tie.MeasureT-loop
 μ-loop targets labels colours n first p₀ next₀ p next = n - p .rounds
 
 loop-holds : tie.Need-loop-holds Inv-loop μ-loop
-loop-holds c = (running-begins _ _ _ (c .before .before .before .before .pre) _ (c .before .initial .ensures), c .fresh .ensures .1)
+loop-holds c =
+    (running-begins _ _ _ (c .before .before .before .before .pre) _ (c .before .initial .ensures), c .fresh .ensures .1)
 
 follow-requires : tie.Need-follow-requires Inv-loop μ-loop
-follow-requires c κs = let inv = c .before .before .before .loop .inv in
-    running-linkable _ _ _ (c .before .before .before .before .before .before .before .before .pre) _ (inv .0) _ (inv .1)
+follow-requires c κs =
+    let loop = c .before .before .before in
+    running-linkable _ _ _ (loop .before .before .before .before .before .pre) _ (loop .loop .inv .0) _ (loop .loop .inv .1)
 
 first-parted-requires : tie.Need-first-parted-requires Inv-loop μ-loop
 first-parted-requires c κs =
-    let lent = c .before .before .before .before .before .before .before .before .before .before .before .before .pre in
-    let run = c .before .before .before .before .before .before .before .loop .inv .0 in
+    let loop = c .before .before .before .before .before .before .before in
+    let lent = loop .before .before .before .before .before .pre in
+    let run = loop .loop .inv .0 in
     (running-searched _ _ _ lent _ run _ (c .before .before .before .follow .ensures), running-named _ _ _ lent _ run)
 
 split-requires : tie.Need-split-requires Inv-loop μ-loop
 split-requires c κs =
-    let lent = c .before .before .before .before .before .before .before .before .before .before .before .before .before .before .before .pre in
-    let run = c .before .before .before .before .before .before .before .before .before .before .loop .inv .0 in (
+    let loop = c .before .before .before .before .before .before .before .before .before .before in
+    let lent = loop .before .before .before .before .before .pre in
+    let run = loop .loop .inv .0 in (
       running-searched _ _ _ lent _ run _ (c .before .before .before .before .before .before .follow .ensures),
       running-heads _ _ _ lent _ run _ (c .before .before .first-parted .ensures) (c .before .if1 .left),
       omega (arith, running-low _ _ _ lent _ run, lent .few),
     )
 
 loop-less : tie.Need-loop-less Inv-loop μ-loop
-loop-less c = omega (arith, running-low _ _ _ (c .before .before .before .before .before .before .before .before .before .before .before .before .before .before .before .before .pre) _ (c .before .before .before .before .before .before .before .before .before .before .before .loop .inv .0), c .split .ensures .rounds)
+loop-less c =
+    let loop = c .before .before .before .before .before .before .before .before .before .before .before in
+    let lent = loop .before .before .before .before .before .pre in
+    let run = loop .loop .inv .0 in
+    omega (arith, running-low _ _ _ lent _ run, c .split .ensures .rounds)
 
 loop-again : tie.Need-loop-again Inv-loop μ-loop
-loop-again c = (
-  running-on _ _ _ (c .before .before .before .before .before .before .before .before .before .before .before .before .before .before .before .before .pre) _ (c .before .before .before .before .before .before .before .before .before .before .before .loop .inv .0) _ _ (c .before .before .before .first-parted .ensures) (c .before .before .if1 .left) (c .split .ensures),
-  c .before .before .before .before .before .before .before .follow .ensures .long,
-)
+loop-again c =
+    let loop = c .before .before .before .before .before .before .before .before .before .before .before in
+    let lent = loop .before .before .before .before .before .pre in
+    let run = loop .loop .inv .0 in (
+      running-on _ _ _ lent _ run _ _ (c .before .before .before .first-parted .ensures) (c .before .before .if1 .left) (c .split .ensures),
+      c .before .before .before .before .before .before .before .follow .ensures .long,
+    )
 
 count-requires : tie.Need-count-requires Inv-loop μ-loop
-count-requires c κs = (c .before .before .before .before .before .before .before .before .before .before .before .before .before .before .before .before .pre .few, c .before .before .before .before .before .before .before .before .before .before .before .before .before .initial .ensures .long)
+count-requires c κs =
+    let begun = c .before .before .before .before .before .before .before .before .before .before .before .before .before in
+    (begun .before .before .before .pre .few, begun .initial .ensures .long)
 
 returns : tie.Need-returns Inv-loop μ-loop
 returns c =
-    let lent = c .before .before .before .before .before .before .before .before .before .before .before .before .before .before .before .before .before .pre in
-    let run = c .before .before .before .before .before .before .before .before .before .before .before .before .loop .inv .0 in
+    let loop = c .before .before .before .before .before .before .before .before .before .before .before .before in
+    let lent = loop .before .before .before .before .before .pre in
+    let run = loop .loop .inv .0 in
     let end = running-ends _ _ _ lent _ run _ (c .before .before .before .before .first-parted .ensures) (c .before .before .before .if1 .taken) in
     record {
-      colours = c .count .ensures .0 ∙ classes-begin _ _ _ lent _ (c .before .before .before .before .before .before .before .before .before .before .before .before .before .before .initial .ensures);
+      colours = c .count .ensures .0 ∙ classes-begin _ _ _ lent _ (loop .before .before .initial .ensures);
       long = run .long;
       names = sym (ap (λ (Q : Classes). Q .names) end);
       rounds = sym (ap (λ (Q : Classes). Q .rounds) end);

@@ -67,7 +67,13 @@ returns c =
     let inv = c .before .loop .inv in
     let few = c .before .before .before .before .before .before .before .before .before .before .pre .0 .few in
     let made = c .before .before .before .group .ensures .front in
-    record { long = inv .2 .long; names = renamed-all _ _ _ _ _ _ _ (inv .2) (c .loop-test .left) few ∙ rounded-by _ _ _ _ _ made; rounds = refl }
+    record {
+      long =
+          inv .2 .long;
+      names = renamed-all _ _ _ _ _ _ _ (inv .2) (c .loop-test .left) few
+          ∙ rounded-by _ _ _ _ _ made;
+      rounds = refl;
+    }
 
 pub split-spec : {M : Type 1} → statement M
 split-spec =
