@@ -25,18 +25,22 @@ conflict next m P s t = any (λ y. apart P (next s y) (next t y)) m
 unfoldable pub live : Filter → ℕ → Bool
 live F s = true
 
--- n states of which some take part, with edges and colours.
-abbrev pub taskOver : (ℕ → Bool) → (ℕ → ℕ → Option ℕ) → (ℕ → ℕ) → ℕ → ℕ → Task
-taskOver live next hue m n = record {
+-- How a class is grouped: from which states are members, which of them conflict, and how many states there are.
+abbrev pub Grouping : Type 0
+Grouping = (ℕ → Bool) → (ℕ → ℕ → Bool) → ℕ → List ℕ
+
+-- n states of which some take part, with a way of grouping, edges and colours.
+abbrev pub taskOver : (ℕ → Bool) → Grouping → (ℕ → ℕ → Option ℕ) → (ℕ → ℕ) → ℕ → ℕ → Task
+taskOver live group next hue m n = record {
   size = n;
   live = live;
   colour = hue;
   conflict = conflict next m;
-  group = λ mem clash. groups mem clash n;
+  group = λ mem clash. group mem clash n;
 }
 
 abbrev pub task : Filter → Task
-task F = taskOver (live F) (edge F) (colour F) (F .labels) (states F)
+task F = taskOver (live F) groups (edge F) (colour F) (F .labels) (states F)
 
 -- The classes at the end, and the rounds made.
 unfoldable pub reduce : Filter → Classes

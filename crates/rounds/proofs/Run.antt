@@ -7,18 +7,32 @@ use mathlib.Core.Option.{Option, none, some}
 use native.Mathlib.Omega.{arith}
 use native.Mathlib.Numerals.{add-one}
 use lib.Dec.{eqb}
-use lib.ListN.{take}
+use lib.ListN.{length, take}
 use borrow.Author.Tests.{le-ltb, lt-ltb, eqb-true, eqb-false}
 use Rattle.meaning.specs.Search.{least, tab, at}
 use Rattle.meaning.specs.SearchLaws.{least-ok, least-cong, tab-cong, count-cong, at-take, any-cong}
 use Rattle.meaning.specs.Classes.{Task, Classes, initial, parted, first, free, groups, split, round, chosen, begin, cut, run, reduction, named, classes}
 use Rattle.meaning.specs.Cases.{test, no-both}
-use Rattle.meaning.specs.ClassesLaws.{Named, groups-apart, name-own}
-use Rattle.meaning.specs.Reduced.{apart, conflict}
+use Rattle.meaning.specs.ClassesLaws.{Named, groups-apart}
+use Rattle.meaning.specs.Reduced.{Grouping, apart, conflict, taskOver}
 use Rattle.meaning.specs.Reduction.{Fair, Kept, initial-good, cut-kept, classes-some, classes-max}
-use Rattle.table.specs.Table.{look}
-use Rattle.rounds.specs.Rounds.{Heads, twin, clash, rounded, taskOf}
-use Rattle.rounds.proofs.Members.{heads}
+use Rattle.table.specs.Table.{Table, look}
+use Rattle.conflicts.specs.Conflicts.{clash}
+use Rattle.conflicts.proofs.Laws.{clash-labels}
+use Rattle.members.specs.Members.{Heads, Linkable, Linked, Searched}
+use Rattle.members.proofs.Laws.{heads}
+use Rattle.pairs.proofs.Laws.{parted-front, parted-own}
+use Rattle.partition.specs.Partition.{twin, rounded, Holds}
+use Rattle.partition.specs.declared.Partition.{Partition}
+use Rattle.rounds.specs.Rounds.{taskOf, everyone, Reducible}
+
+-- where no label of a table is m or more, the task is that of m labels
+pub task-labels : (live : ℕ → Bool) (group : Grouping) (T : Table) (hues : List ℕ) (m n : ℕ) → m ≤ 64
+    → ((s y t : ℕ) → look T s y ≡ some t → y < m)
+    → taskOf live group T hues n ≡ taskOver live group (look T) (at hues) m n
+task-labels live group T hues m n few below = ap
+    (λ (f : List ℕ → ℕ → ℕ → Bool). record { size = n; live = live; colour = at hues; conflict = f; group = λ mem clash. group mem clash n })
+    (clash-labels T m few below)
 
 -- ---- only the names of states count
 
@@ -29,13 +43,9 @@ module _ (n : ℕ) (clashes : ℕ → ℕ → Bool) (P : List ℕ) where
   same : (c s : ℕ) → s < n → eqb (at P s) c ≡ eqb (at front s) c
   same c s h = ap (λ (k : ℕ). eqb k c) (sym (at-take P n s h))
 
-  parted-front : (c : ℕ) → parted n clashes P c ≡ parted n clashes front c
-  unfolding parted
-  parted-front c = any-cong _ _ n (λ t h. ap₂ _&&_ (same c t h) (any-cong _ _ t (λ s l. ap (λ (b : Bool). b && clashes s t) (same c s (omega arith)))))
-
   first-front : first n clashes P ≡ first n clashes front
   unfolding first
-  first-front = least-cong _ _ n (λ c h. parted-front c)
+  first-front = least-cong _ _ n (λ c h. parted-front n clashes P c)
 
   groups-front : (c k : ℕ) → k ≤ n → groups (λ s. eqb (at P s) c) clashes k ≡ groups (λ s. eqb (at front s) c) clashes k
   unfolding groups free
@@ -55,132 +65,144 @@ module _ (n : ℕ) (clashes : ℕ → ℕ → Bool) (P : List ℕ) where
       (least-cong _ _ n (λ t l. ap (λ (b : Bool). b && eqb (at G t) (at G s)) (same c t l)))
       ∙ ap (λ (v : ℕ). elim (eqb (at front s) c) as (λ x. ℕ) [ true ↦ least (λ t. eqb (at front t) c && eqb (at G t) (at G s)) n | false ↦ v ]) (sym (at-take P n s h))
 
-  rounded-front : (c : ℕ) → rounded n clashes P c ≡ rounded n clashes front c
+  rounded-front : (c : ℕ) → rounded groups n clashes P c ≡ rounded groups n clashes front c
   unfolding rounded
   rounded-front c = ap (split n P c) (groups-front c n (omega arith)) ∙ split-front c _
 
--- a state that is not its own name names no class, and so parts none
-pub parted-own : (n : ℕ) (clashes : ℕ → ℕ → Bool) (P : List ℕ) → Named n (take n P) → (c : ℕ) → c < n → (at P c ≡ c → ⊥) → parted n clashes P c ≡ false
-parted-own n clashes P nm c h e = test (parted n clashes P c)
-    (λ q. absurd (e (sym (at-take P n c h) ∙ name-own n clashes (take n P) nm c h (sym (parted-front n clashes P c) ∙ q))))
-    (λ q. q)
-
-pub classes-front : (n : ℕ) (P : List ℕ) → classes n P ≡ classes n (take n P)
+classes-front : (n : ℕ) (P : List ℕ) → classes n P ≡ classes n (take n P)
 unfolding classes
 classes-front n P = count-cong (named P) (named (take n P)) n (λ s h. ap (λ (k : ℕ). eqb k s) (sym (at-take P n s h)))
 
 -- names of targets are names of states
-module _ (table : List ℕ) (n : ℕ) (inside : (s y t : ℕ) → look table s y ≡ some t → t < n) (P : List ℕ) where
-  apart-front : (o q : Option ℕ) → ((t : ℕ) → o ≡ some t → t < n) → ((t : ℕ) → q ≡ some t → t < n) → apart P o q ≡ apart (take n P) o q
+module _ (T : Table) (n : ℕ) (inside : (s y t : ℕ) → look T s y ≡ some t → t < n) (P : List ℕ) where
+  apart-front : (o q : Option ℕ) → ((t : ℕ) → o ≡ some t → t < n) → ((t : ℕ) → q ≡ some t → t < n)
+      → apart P o q ≡ apart (take n P) o q
   unfolding apart
   apart-front none q h k = refl
   apart-front (some a) none h k = refl
-  apart-front (some a) (some b) h k = ap₂ (λ (x y : ℕ). not (eqb x y)) (sym (at-take P n a (h a refl))) (sym (at-take P n b (k b refl)))
+  apart-front (some a) (some b) h k =
+      ap₂ (λ (x y : ℕ). not (eqb x y)) (sym (at-take P n a (h a refl))) (sym (at-take P n b (k b refl)))
 
-  clash-front : (m : ℕ) → clash table m P ≡ clash table m (take n P)
+  clash-front : clash T P ≡ clash T (take n P)
   unfolding conflict
-  clash-front m = fun-ext λ a. fun-ext λ b. any-cong _ _ m (λ y h. apart-front (look table a y) (look table b y) (inside a y) (inside b y))
+  clash-front = fun-ext λ a. fun-ext λ b. any-cong _ _ 64 (λ y h. apart-front (look T a y) (look T b y) (inside a y) (inside b y))
 
 -- ---- the run
 
-module _ (table hues : List ℕ) (m n : ℕ) where
-  abbrev pub T : Task
-  T = taskOf table hues m n
+module _ (T : Table) (hues : List ℕ) (n : ℕ) where
+  abbrev task : Task
+  task = taskOf everyone groups T hues n
 
-  abbrev now : List ℕ → ℕ → Classes
-  now names rounds = record { names = take n names; rounds = rounds }
+  abbrev now : Partition → Classes
+  now Q = record { names = take n (Q .names); rounds = Q .rounds }
 
-  -- The rounds made so far, and what is left of the recursion's bound.
-  pub record Running (names : List ℕ) (rounds : ℕ) : Type 0 where
+  -- the rounds made so far, and what is left of the recursion's bound
+  pub record Running (Q : Partition) : Type 0 where
+    pub long : length (Q .names) ≡ 256
     pub rest : ℕ
-    pub counted : rounds + rest ≡ n
-    pub goes : reduction T ≡ run rest T (now names rounds)
-    pub kept : Kept T 1 (now names rounds)
+    pub counted : Q .rounds + rest ≡ n
+    pub goes : reduction task ≡ run rest task (now Q)
+    pub kept : Kept task 1 (now Q)
 
-  module _ (some-state : 0 < n) (few : n ≤ 256) (inside : (s y t : ℕ) → look table s y ≡ some t → t < n) where
-    fair : Fair T
-    fair = record { small = omega arith; somebody = (0, some-state, refl); proper = λ mem clashes. groups-apart mem clashes n }
+  -- the class that the next round takes
+  abbrev pub taken : Partition → ℕ
+  taken Q = first n (clash T (Q .names)) (Q .names)
 
-    pub chosen-front : (names : List ℕ) → first n (clash table m names) names ≡ chosen T (take n names)
+  module _ (lent : Reducible T hues n) where
+    fair : Fair task
+    fair = record { small = omega (arith, lent .few); somebody = (0, lent .somebody, refl); proper = λ mem clashes. groups-apart mem clashes n }
+
+    chosen-front : (P : List ℕ) → first n (clash T P) P ≡ chosen task (take n P)
     unfolding chosen
-    chosen-front names = ap (λ (f : ℕ → ℕ → Bool). first n f names) (clash-front table n inside names m) ∙ first-front n (clash table m (take n names)) names
+    chosen-front P =
+        ap (λ (f : ℕ → ℕ → Bool). first n f P) (clash-front T n (lent .inside) P) ∙ first-front n (clash T (take n P)) P
 
-    round-front : (names : List ℕ) (c : ℕ) → rounded n (clash table m names) names c ≡ round T (take n names) c
+    round-front : (P : List ℕ) (c : ℕ) → rounded groups n (clash T P) P c ≡ round task (take n P) c
     unfolding rounded round
-    round-front names c =
-        ap (λ (f : ℕ → ℕ → Bool). rounded n f names c) (clash-front table n inside names m) ∙ rounded-front n (clash table m (take n names)) names c
+    round-front P c =
+        ap (λ (f : ℕ → ℕ → Bool). rounded groups n f P c) (clash-front T n (lent .inside) P) ∙ rounded-front n (clash T (take n P)) P c
 
-    initial-twins : initial T ≡ tab n (twin hues n)
+    initial-twins : initial task ≡ tab n (twin hues n)
     unfolding initial twin
     initial-twins = refl
 
-    pub classes-begin : (names : List ℕ) → take n names ≡ tab n (twin hues n) → classes n names ≡ classes n (initial T)
-    classes-begin names h = classes-front n names ∙ ap (classes n) (h ∙ sym initial-twins)
+    pub classes-begin : (Q : Partition) → Holds Q n (tab n (twin hues n)) 0 → classes n (Q .names) ≡ classes n (initial task)
+    classes-begin Q h = classes-front n (Q .names) ∙ ap (classes n) (h .names ∙ sym initial-twins)
 
-    pub running-begins : (names : List ℕ) (rounds : ℕ) → take n names ≡ tab n (twin hues n) → rounds ≡ 0 → Running names rounds
+    pub running-begins : (Q : Partition) → Holds Q n (tab n (twin hues n)) 0 → Running Q
     unfolding reduction begin
-    running-begins names rounds h none-yet =
-        let same : initial T ≡ take n names = initial-twins ∙ sym h in
-        subst (Running names) (sym none-yet) record {
-          rest = n;
-          counted = omega arith;
-          goes = ap (λ (P : List ℕ). run n T (record { names = P; rounds = 0 })) same;
-          kept = subst (λ (P : List ℕ). Kept T 1 (record { names = P; rounds = 0 })) same
-              (record { good = initial-good T fair; bound = omega (arith, classes-some T fair (initial T) (initial-good T fair)) });
-        }
-
-    -- few rounds are made
-    pub running-low : (names : List ℕ) (rounds : ℕ) → Running names rounds → rounds < n
-    running-low names rounds r = let b = r .kept .bound in omega (arith, classes-max T fair (take n names))
-
-    -- the names are right
-    pub running-named : (names : List ℕ) (rounds : ℕ) → Running names rounds → Named n (take n names)
-    running-named names rounds r = r .kept .good .right
-
-    -- each state is in a class
-    pub running-all : (names : List ℕ) (rounds : ℕ) → Running names rounds → (s : ℕ) → s < n → at names s < n
-    running-all names rounds r s h = let low = r .kept .good .all s h refl in omega (arith, low, at-take names n s h)
-
-    -- the class that is taken is headed by its name
-    pub running-heads : (names : List ℕ) (rounds c : ℕ) → Running names rounds → c ≡ first n (clash table m names) names → c < n → Heads names n c
-    unfolding first
-    running-heads names rounds c r e l =
-        let right = running-named names rounds r in
-        let clashes = clash table m names in
-        let hit : parted n clashes names c ≡ true = rw e (least-ok (parted n clashes names) n (omega (arith, e))) in
-        heads n names right c l (test (eqb (at names c) c) (λ q. eqb-true _ _ q) (λ q. no-both hit (parted-own n clashes names right c l (eqb-false _ _ q))))
-
-    pub running-on : (names next : List ℕ) (rounds more c : ℕ) → Running names rounds → c ≡ first n (clash table m names) names → c < n
-        → take n next ≡ rounded n (clash table m names) names c → more ≡ rounds + 1 → Running next more
-    unfolding cut run
-    running-on names next rounds more c r e l h one = subst (Running next) (sym one) (go (r .rest) (r .counted) (r .goes))
+    running-begins Q h = record {
+      long = h .long;
+      rest = n;
+      counted = omega (arith, h .rounds);
+      goes = ap (run n task) same;
+      kept = subst (Kept task 1) same (record { good = initial-good task fair; bound = omega (arith, classes-some task fair (initial task) (initial-good task fair)) });
+    }
       where
-        here : c ≡ chosen T (take n names)
-        here = e ∙ chosen-front names
+        same : begin task ≡ now Q
+        same = ap₂ {C = Classes} (λ (P : List ℕ) (k : ℕ). record { names = P; rounds = k }) (initial-twins ∙ sym (h .names)) (sym (h .rounds))
 
-        after : take n next ≡ round T (take n names) (chosen T (take n names))
-        after = h ∙ round-front names c ∙ ap (round T (take n names)) here
+    module _ (Q : Partition) (r : Running Q) where
+      -- few rounds are made
+      pub running-low : Q .rounds < n
+      running-low = let b = r .kept .bound in omega (arith, classes-max task fair (take n (Q .names)))
 
-        cutting : cut T (now names rounds) (chosen T (take n names)) ≡ now next (rounds + 1)
-        cutting = ap₂ {C = Classes} (λ (P : List ℕ) (k : ℕ). record { names = P; rounds = k }) (sym after) (sym (add-one rounds))
+      -- the names are right
+      pub running-named : Named n (take n (Q .names))
+      running-named = r .kept .good .right
 
-        go : (f : ℕ) → rounds + f ≡ n → reduction T ≡ run f T (now names rounds) → Running next (rounds + 1)
-        go zero k g = absurd (omega (arith, running-low names rounds r))
-        go (suc f) k g = record {
-          rest = f;
-          counted = omega arith;
-          goes = g ∙ turn f;
-          kept = subst (Kept T 1) cutting (cut-kept T fair 1 (now names rounds) (omega (arith, here)) (r .kept));
-        }
-          where
-            turn : (f : ℕ) → run (suc f) T (now names rounds) ≡ run f T (now next (rounds + 1))
-            turn f = let q : chosen T (take n names) < n = omega (arith, here) in rw (run, lt-ltb _ _ q, cutting)
+      -- each state is in a class
+      pub running-linkable : (next : List ℕ) → length next ≡ 256 → Linkable (Q .names) next n
+      running-linkable next l = record {
+        few = lent .few;
+        names-long = r .long;
+        next-long = l;
+        low = λ s h. omega (arith, r .kept .good .all s h refl, at-take (Q .names) n s h, lent .few);
+      }
 
-    pub running-ends : (names : List ℕ) (rounds c : ℕ) → Running names rounds → c ≡ first n (clash table m names) names → n ≤ c
-        → reduction T ≡ now names rounds
-    unfolding run
-    running-ends names rounds c r e l = r .goes ∙ go (r .rest)
-      where
-        go : (f : ℕ) → run f T (now names rounds) ≡ now names rounds
-        go zero = refl
-        go (suc f) = let q : n ≤ chosen T (take n names) = omega (arith, e ∙ chosen-front names) in rw (run, le-ltb _ _ q)
+      pub running-searched : (next : List ℕ) → Linked (Q .names) n next → Searched T (Q .names) next n
+      running-searched next l = record { few = lent .few; rows = lent .rows; names-long = r .long; linked = l }
+
+      -- the class that is taken is headed by its name
+      pub running-heads : (c : ℕ) → c ≡ taken Q → c < n → Heads (Q .names) n c
+      unfolding first
+      running-heads c e l =
+          let P = Q .names in
+          let hit : parted n (clash T P) P c ≡ true = rw e (least-ok (parted n (clash T P) P) n (omega (arith, e))) in
+          heads n P running-named c l (test (eqb (at P c) c) (λ q. eqb-true _ _ q) (λ q. no-both hit (parted-own n (clash T P) P running-named c l (eqb-false _ _ q))))
+
+      pub running-on : (R : Partition) (c : ℕ) → c ≡ taken Q → c < n
+          → Holds R n (rounded groups n (clash T (Q .names)) (Q .names) c) (Q .rounds + 1) → Running R
+      unfolding cut run
+      running-on R c e l h = go (r .rest) (r .counted) (r .goes)
+        where
+          here : c ≡ chosen task (take n (Q .names))
+          here = e ∙ chosen-front (Q .names)
+
+          after : take n (R .names) ≡ round task (take n (Q .names)) (chosen task (take n (Q .names)))
+          after = h .names ∙ round-front (Q .names) c ∙ ap (round task (take n (Q .names))) here
+
+          cutting : cut task (now Q) (chosen task (take n (Q .names))) ≡ now R
+          cutting = ap₂ {C = Classes} (λ (P : List ℕ) (k : ℕ). record { names = P; rounds = k }) (sym after) (sym (h .rounds ∙ add-one (Q .rounds)))
+
+          go : (f : ℕ) → Q .rounds + f ≡ n → reduction task ≡ run f task (now Q) → Running R
+          go zero k g = absurd (omega (arith, running-low))
+          go (suc f) k g = record {
+            long = h .long;
+            rest = f;
+            counted = omega (arith, h .rounds);
+            goes = g ∙ turn f;
+            kept = subst (Kept task 1) cutting (cut-kept task fair 1 (now Q) (omega (arith, here)) (r .kept));
+          }
+            where
+              turn : (f : ℕ) → run (suc f) task (now Q) ≡ run f task (now R)
+              turn f = let q : chosen task (take n (Q .names)) < n = omega (arith, here) in rw (run, lt-ltb _ _ q, cutting)
+
+      pub running-ends : (c : ℕ) → c ≡ taken Q → n ≤ c → reduction task ≡ now Q
+      unfolding run
+      running-ends c e l = r .goes ∙ go (r .rest)
+        where
+          go : (f : ℕ) → run f task (now Q) ≡ now Q
+          go zero = refl
+          go (suc f) =
+              let q : n ≤ chosen task (take n (Q .names)) = omega (arith, e ∙ chosen-front (Q .names)) in rw (run, le-ltb _ _ q)

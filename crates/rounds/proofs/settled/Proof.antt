@@ -1,121 +1,80 @@
--- `rounds::settled` meets its contract. Assumes nothing.
+-- `rounds::settled` meets its contract. The invariant: the run goes on from p as it went from the beginning. Assumes nothing.
 use Prim.Native.Nat.{_-_}
+use borrow.Author.Needs.{needs}
 use native.Mathlib.Omega.{arith}
 use mathlib.Core.Path.{_≡_, sym, ap, _∙_}
-use denote.Ref.{now}
 use lib.ListN.{length}
-use Rattle.meaning.specs.Classes.{Classes, first}
-use Rattle.rounds.specs.Rounds.{Linked, clash}
-use Rattle.rounds.proofs.Run.{Running, running-begins, running-on, running-low, running-named, running-all, running-heads, running-ends, classes-begin}
-use borrow.Author.Needs.{needs}
+use Rattle.meaning.specs.Classes.{Classes}
+use Rattle.table.specs.Table.{table}
+use Rattle.rounds.proofs.Run.{Running, running-begins, running-on, running-low, running-named, running-linkable, running-searched, running-heads, running-ends, classes-begin}
 use Rattle.rounds.proofs.settled.Statement.{statement}
 use Rattle.rounds.proofs.settled.Tie as tie
 
 abbrev Inv-loop : tie.InvT-loop
-Inv-loop table colours m n begin labels p₀ next₀ c₀ p next c = Running table colours m n (p .names) (p .rounds) × (c ≡ first n (clash table m (p .names)) (p .names)) × (length (p .names) ≡ 256) × Linked (p .names) n next
+Inv-loop targets labels colours n first p₀ next₀ p next = Running (table targets labels) colours n p × (length next ≡ 256)
 
 abbrev μ-loop : tie.MeasureT-loop
-μ-loop table colours m n begin labels p₀ next₀ c₀ p next c = n - p .rounds
-
--- the run at its beginning
-begun : (c : tie.After-initial Inv-loop μ-loop) → Running (now (c .before .before .args .table)) (now (c .before .before .args .colours)) (c .before .before .args .m) (c .before .before .args .n) (c .initial .result .names) (c .initial .result .rounds)
-begun c =
-    let pre = c .before .before .pre in
-    running-begins _ _ _ _ (pre .0) (pre .1) (pre .4) _ _ (c .initial .ensures .0) (c .initial .ensures .1)
-
--- and after a round more
-grown : (c : tie.After-split Inv-loop μ-loop) → Running (now (c .before .before .before .before .before .before .before .before .before .before .before .before .before .before .before .before .before .before .before .before .args .table)) (now (c .before .before .before .before .before .before .before .before .before .before .before .before .before .before .before .before .before .before .before .before .args .colours)) (c .before .before .before .before .before .before .before .before .before .before .before .before .before .before .before .before .before .before .before .before .args .m) (c .before .before .before .before .before .before .before .before .before .before .before .before .before .before .before .before .before .before .before .before .args .n) (c .split .result .names) (c .split .result .rounds)
-grown c =
-    let pre = c .before .before .before .before .before .before .before .before .before .before .before .before .before .before .before .before .before .before .before .before .pre in
-    let old = c .before .before .before .before .loop .inv in
-    running-on _ _ _ _ (pre .0) (pre .1) (pre .4) _ _ _ _ _ (old .0) (old .1) (c .before .before .before .loop-test .taken) (c .split .ensures .0) (c .split .ensures .1)
-
-initial-requires : tie.Need-initial-requires Inv-loop μ-loop
-initial-requires c κs = search needs
-
-unlabelled-requires : tie.Need-unlabelled-requires Inv-loop μ-loop
-unlabelled-requires c κs = search needs
-
-label-requires : tie.Need-label-requires Inv-loop μ-loop
-label-requires c κs = let pre = c .before .before .before .before .pre in
-    (omega (arith, pre .2), pre .1, pre .5, c .before .unlabelled .ensures)
-
-fresh-requires : tie.Need-fresh-requires Inv-loop μ-loop
-fresh-requires c κs = search needs
-
-follow-requires : tie.Need-follow-requires Inv-loop μ-loop
-follow-requires c κs = let pre = c .before .before .before .before .before .before .before .before .before .pre in
-    let low = running-all _ _ _ _ (pre .0) (pre .1) (pre .4) _ _ (begun (c .before .before .before .before .before .before .before)) in
-    (pre .1, λ s h. omega (arith, low s h), c .before .before .before .fresh .ensures .1, c .before .before .before .before .before .before .before .initial .ensures .2)
-
-first-parted-requires : tie.Need-first-parted-requires Inv-loop μ-loop
-first-parted-requires c κs = let pre = c .before .before .before .before .before .before .before .before .before .before .before .before .before .before .pre in
-    let labelled = c .before .before .before .before .before .before .before .before .before .label .ensures in (
-      omega (arith, pre .2),
-      pre .1,
-      running-named _ _ _ _ (pre .0) (pre .1) (pre .4) _ _ (begun (c .before .before .before .before .before .before .before .before .before .before .before .before)),
-      labelled .0,
-      λ s y h l. labelled .1 s y h (omega arith),
-      c .before .before .before .before .follow .ensures,
-      pre .5,
-      c .before .before .before .before .before .before .before .before .before .before .before .before .initial .ensures .2,
-    )
+μ-loop targets labels colours n first p₀ next₀ p next = n - p .rounds
 
 loop-holds : tie.Need-loop-holds Inv-loop μ-loop
-loop-holds c = (begun (c .before .before .before .before .before .before .before .before .before .before .before .before .before), c .first-parted .ensures, c .before .before .before .before .before .before .before .before .before .before .before .before .before .initial .ensures .2, c .before .before .before .before .before .follow .ensures)
+loop-holds c =
+    (running-begins _ _ _ (c .before .before .before .before .pre) _ (c .before .initial .ensures), c .fresh .ensures .1)
+
+follow-requires : tie.Need-follow-requires Inv-loop μ-loop
+follow-requires c κs =
+    let loop = c .before .before .before in
+    running-linkable _ _ _ (loop .before .before .before .before .before .pre) _ (loop .loop .inv .0) _ (loop .loop .inv .1)
+
+first-parted-requires : tie.Need-first-parted-requires Inv-loop μ-loop
+first-parted-requires c κs =
+    let loop = c .before .before .before .before .before .before .before in
+    let lent = loop .before .before .before .before .before .pre in
+    let run = loop .loop .inv .0 in
+    (running-searched _ _ _ lent _ run _ (c .before .before .before .follow .ensures), running-named _ _ _ lent _ run)
 
 split-requires : tie.Need-split-requires Inv-loop μ-loop
-split-requires c κs = let pre = c .before .before .before .before .before .before .before .before .before .before .before .before .before .before .before .before .before .before .before .pre in
-    let inv = c .before .before .before .loop .inv in
-    let labelled = c .before .before .before .before .before .before .before .before .before .before .before .before .before .before .label .ensures in
-    let low = running-low _ _ _ _ (pre .0) (pre .1) (pre .4) _ _ (inv .0) in (
-      omega (arith, pre .2),
-      pre .1,
-      omega (arith, low, pre .1),
-      labelled .0,
-      λ s y h l. labelled .1 s y h (omega arith),
-      inv .3,
-      running-heads _ _ _ _ (pre .0) (pre .1) (pre .4) _ _ _ (inv .0) (inv .1) (c .before .before .loop-test .taken),
-      pre .5,
-    )
-
-follow-requires-2 : tie.Need-follow-requires-2 Inv-loop μ-loop
-follow-requires-2 c κs = let pre = c .before .before .before .before .before .before .before .before .before .before .before .before .before .before .before .before .before .before .before .before .before .before .before .pre in
-    let low = running-all _ _ _ _ (pre .0) (pre .1) (pre .4) _ _ (grown (c .before .before .before)) in
-    (pre .1, λ s h. omega (arith, low s h), c .before .before .before .before .before .before .before .loop .inv .3 .long, c .before .before .before .split .ensures .2)
-
-first-parted-requires-2 : tie.Need-first-parted-requires-2 Inv-loop μ-loop
-first-parted-requires-2 c κs = let pre = c .before .before .before .before .before .before .before .before .before .before .before .before .before .before .before .before .before .before .before .before .before .before .before .before .before .before .before .before .pre in
-    let labelled = c .before .before .before .before .before .before .before .before .before .before .before .before .before .before .before .before .before .before .before .before .before .before .before .label .ensures in (
-      omega (arith, pre .2),
-      pre .1,
-      running-named _ _ _ _ (pre .0) (pre .1) (pre .4) _ _ (grown (c .before .before .before .before .before .before .before .before)),
-      labelled .0,
-      λ s y h l. labelled .1 s y h (omega arith),
-      c .before .before .before .before .follow2 .ensures,
-      pre .5,
-      c .before .before .before .before .before .before .before .before .split .ensures .2,
+split-requires c κs =
+    let loop = c .before .before .before .before .before .before .before .before .before .before in
+    let lent = loop .before .before .before .before .before .pre in
+    let run = loop .loop .inv .0 in (
+      running-searched _ _ _ lent _ run _ (c .before .before .before .before .before .before .follow .ensures),
+      running-heads _ _ _ lent _ run _ (c .before .before .first-parted .ensures) (c .before .if1 .left),
+      omega (arith, running-low _ _ _ lent _ run, lent .few),
     )
 
 loop-less : tie.Need-loop-less Inv-loop μ-loop
-loop-less c = let pre = c .before .before .before .before .before .before .before .before .before .before .before .before .before .before .before .before .before .before .before .before .before .before .before .before .before .before .before .before .before .pre in
-    let low = running-low _ _ _ _ (pre .0) (pre .1) (pre .4) _ _ (c .before .before .before .before .before .before .before .before .before .before .before .before .before .loop .inv .0) in
-    omega (arith, low, c .before .before .before .before .before .before .before .before .before .split .ensures .1)
+loop-less c =
+    let loop = c .before .before .before .before .before .before .before .before .before .before .before in
+    let lent = loop .before .before .before .before .before .pre in
+    let run = loop .loop .inv .0 in
+    omega (arith, running-low _ _ _ lent _ run, c .split .ensures .rounds)
 
 loop-again : tie.Need-loop-again Inv-loop μ-loop
-loop-again c = (grown (c .before .before .before .before .before .before .before .before .before), c .first-parted2 .ensures, c .before .before .before .before .before .before .before .before .before .split .ensures .2, c .before .before .before .before .before .follow2 .ensures)
+loop-again c =
+    let loop = c .before .before .before .before .before .before .before .before .before .before .before in
+    let lent = loop .before .before .before .before .before .pre in
+    let run = loop .loop .inv .0 in (
+      running-on _ _ _ lent _ run _ _ (c .before .before .before .first-parted .ensures) (c .before .before .if1 .left) (c .split .ensures),
+      c .before .before .before .before .before .before .before .follow .ensures .long,
+    )
 
 count-requires : tie.Need-count-requires Inv-loop μ-loop
-count-requires c κs = (c .before .before .before .before .before .before .before .before .before .before .before .before .before .before .before .before .before .before .before .pre .1, c .before .before .before .before .before .before .before .before .before .before .before .before .before .before .before .before .before .initial .ensures .2)
+count-requires c κs =
+    let begun = c .before .before .before .before .before .before .before .before .before .before .before .before .before in
+    (begun .before .before .before .pre .few, begun .initial .ensures .long)
 
 returns : tie.Need-returns Inv-loop μ-loop
-returns c = let begun = c .before .before .before .before .before .before .before .before .before .before .before .before .before .before .before .before .before .before .initial in
-    let pre = c .before .before .before .before .before .before .before .before .before .before .before .before .before .before .before .before .before .before .before .before .pre in
-    let inv = c .before .before .before .before .loop .inv in
-    let end = running-ends _ _ _ _ (pre .0) (pre .1) (pre .4) _ _ _ (inv .0) (inv .1) (c .before .before .before .loop-test .left) in (
-      c .count .ensures .0 ∙ classes-begin _ _ _ _ (pre .0) (pre .1) (pre .4) _ (begun .ensures .0),
-      (inv .2, (sym (ap (λ (Q : Classes). Q .names) end), sym (ap (λ (Q : Classes). Q .rounds) end))),
-    )
+returns c =
+    let loop = c .before .before .before .before .before .before .before .before .before .before .before .before in
+    let lent = loop .before .before .before .before .before .pre in
+    let run = loop .loop .inv .0 in
+    let end = running-ends _ _ _ lent _ run _ (c .before .before .before .before .first-parted .ensures) (c .before .before .before .if1 .taken) in
+    record {
+      colours = c .count .ensures .0 ∙ classes-begin _ _ _ lent _ (loop .before .before .initial .ensures);
+      long = run .long;
+      names = sym (ap (λ (Q : Classes). Q .names) end);
+      rounds = sym (ap (λ (Q : Classes). Q .rounds) end);
+    }
 
 pub settled-spec : {M : Type 1} → statement M
 settled-spec =
@@ -123,16 +82,12 @@ settled-spec =
     (tie.spec
     Inv-loop
     μ-loop
-    initial-requires
-    unlabelled-requires
-    label-requires
-    fresh-requires
+    (λ c κs. search needs)
+    (λ c κs. search needs)
+    loop-holds
     follow-requires
     first-parted-requires
-    loop-holds
     split-requires
-    follow-requires-2
-    first-parted-requires-2
     loop-less
     loop-again
     count-requires

@@ -1,0 +1,37 @@
+// Who follows whom in a class, and how many classes there are.
+ghost use mathlib.Core.Path.{_≡_};
+ghost use Prim.Native.Nat.{_≤_};
+ghost use lib.ListN.{length};
+ghost use Rattle.meaning.specs.Classes.{classes};
+ghost use Rattle.members.specs.Members.{Linkable, Linked};
+
+// For each state the next one behind it in its class; n where there is none.
+pub fn follow(names: &[u16; 256], n: usize, next: &mut [u16; 256])
+    requires { ⌜ Linkable (now names) (now next) n ⌝ }
+    ensures { λ _. ⌜ Linked (now (names .entry)) n (now (next .exit)) ⌝ }
+{
+    let mut nearest = arrays::filled(n as u16); // by name: the first member at s or behind it
+    let mut s = n;
+    while 0 < s {
+        s -= 1;
+        let c = arrays::wide(names[s]);
+        next[s] = nearest[c];
+        nearest[c] = s as u16;
+    }
+}
+
+// How many classes there are.
+pub fn count(names: &[u16; 256], n: usize) -> usize
+    requires { ⌜ (n ≤ 256) × (length (now names) ≡ 256) ⌝ }
+    ensures { λ r. ⌜ (r ≡ classes n (now (names .entry))) × (r ≤ n) ⌝ }
+{
+    let mut k = 0;
+    let mut s: usize = 0;
+    while s < n {
+        if names[s] == s as u16 {
+            k += 1;
+        }
+        s += 1;
+    }
+    k
+}

@@ -1,0 +1,26 @@
+-- The names of the classes at the beginning and after a round. They stand in a list that may be longer than n.
+-- Assumes nothing.
+use Prim.Native.Nat.{ℕ}
+use mathlib.Core.Path.{_≡_}
+use mathlib.Core.Bool.{Bool}
+use mathlib.Core.List.{List}
+use lib.Dec.{eqb}
+use lib.ListN.{length, take}
+use Rattle.meaning.specs.Search.{least, at}
+use Rattle.meaning.specs.Classes.{split}
+use Rattle.meaning.specs.Reduced.{Grouping}
+use Rattle.partition.specs.declared.Partition.{Partition}
+
+-- The smallest state below n of the colour of s.
+unfoldable pub twin : List ℕ → ℕ → ℕ → ℕ
+twin hues n s = least (λ t. eqb (at hues t) (at hues s)) n
+
+-- The names after a round at class c.
+unfoldable pub rounded : Grouping → ℕ → (ℕ → ℕ → Bool) → List ℕ → ℕ → List ℕ
+rounded group n clash P c = split n P c (group (λ s. eqb (at P s) c) clash n)
+
+-- The partition has these names for n states, and this many rounds are made.
+pub record Holds (Q : Partition) (n : ℕ) (P : List ℕ) (k : ℕ) : Type 0 where
+  pub long : length (Q .names) ≡ 256
+  pub names : take n (Q .names) ≡ P
+  pub rounds : Q .rounds ≡ k
