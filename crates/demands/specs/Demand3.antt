@@ -1,6 +1,6 @@
 -- Demand 3 over bytes: whatever an accepted file traces from its start, the file that reduce writes traces too, with the same colours
 -- before the first observation and after each; and rounds + distinct colours ≤ reduced states ≤ original states. Stated over the
--- definitions that the contracts of trace and reduce cite, and then of any answers and rooms that meet those contracts.
+-- definitions that the contracts of trace and reduce cite, and then of any answers and rooms that meet those contracts. Of any usable widths.
 -- Assumes nothing.
 use Prim.Native.Nat.{ℕ, _+_, _-_, _≤_, _<_}
 use mathlib.Core.Path.{_≡_, refl, sym, ap, ap₂, _∙_, subst}
@@ -19,13 +19,16 @@ use Rattle.meaning.specs.Filter.{Filter, states, inOrder}
 use Rattle.meaning.specs.Trace.{shown, stops}
 use Rattle.meaning.specs.Reduced.{reduce, merged, reduced, distinct}
 use Rattle.meaning.specs.Demand.{reduced-bound, reduced-traces}
-use Rattle.file.specs.Layout.{large, lengthOf, written}
-use Rattle.file.specs.Contents.{labelsIn, filterIn}
-use Rattle.file.specs.Answers.{Outcome, accepted, refused}
-use Rattle.file.specs.Refusals.{onward, firstOf, checkOf, numbersIn, laid, roomAfter}
-use Rattle.file.proofs.Bounds.{large-usable, states-high}
-use Rattle.file.proofs.Tests.{first-accepted, Sound, check-sound, Writable, writable-in-order}
-use Rattle.file.proofs.Files.{Holds, length-written, written-holds, length-filter, read-writable}
+use Rattle.layout.specs.declared.Profile.{Profile}
+use Rattle.layout.specs.Code.{Usable}
+use Rattle.layout.specs.Layout.{lengthOf, written}
+use Rattle.layout.specs.Contents.{labelsIn, filterIn}
+use Rattle.refusals.specs.Refusals.{Outcome, accepted, refused, onward, firstOf, laid, roomAfter}
+use Rattle.files.specs.Files.{checkOf, numbersIn}
+use Rattle.layout.proofs.Bounds.{states-high}
+use Rattle.refusals.proofs.Laws.{first-accepted}
+use Rattle.files.specs.Tests.{Sound, check-sound, Writable, writable-in-order}
+use Rattle.files.specs.Written.{Holds, length-written, written-holds, length-filter, read-writable}
 use Rattle.tracing.specs.declared.Traced.{Traced}
 use Rattle.tracing.specs.declared.Traced.the-variants as traced
 use Rattle.tracing.specs.Answers.{rideOutcome}
@@ -34,56 +37,56 @@ use Rattle.tracing.specs.Promise.{TracePromise}
 use Rattle.tracing.proofs.Unique.{traced-one}
 use Rattle.reduction.specs.declared.Counts.{Counts}
 use Rattle.reduction.specs.declared.Reduced.the-variants as answers
-use Rattle.reduction.specs.Reducing.{reduceTests, countsOf, reduceOf}
+use Rattle.reduction.specs.Reducing.{Rooms, reduceTests, countsOf, reduceOf}
 use Rattle.reduction.specs.Promise.{ReducePromise}
 use Rattle.reduction.proofs.Accepted.{reduced-writable, file-accepted}
 
 -- The bytes of the reduced file.
-abbrev pub reducedFile : List ℕ → List ℕ
-reducedFile file = written large (reduced (filterIn large file))
+abbrev pub reducedFile : Profile → List ℕ → List ℕ
+reducedFile P file = written P (reduced (filterIn P file))
 
 -- A file traces a sequence: no observation of it is without an edge.
-abbrev pub Traces : List ℕ → List ℕ → Type 0
-Traces file ys = stops (filterIn large file) ys ≡ none
+abbrev pub Traces : Profile → List ℕ → List ℕ → Type 0
+Traces P file ys = stops (filterIn P file) ys ≡ none
 
 -- The colours that a file shows: before the first observation, and after each.
-abbrev pub Shows : List ℕ → List ℕ → List ℕ
-Shows file ys = shown (filterIn large file) ys
+abbrev pub Shows : Profile → List ℕ → List ℕ → List ℕ
+Shows P file ys = shown (filterIn P file) ys
 
 -- ---- of an accepted file
 
-module _ (file : List ℕ) (bytes : Bytes file) (vs : List ℕ) (accepts : checkOf large file ≡ accepted vs) where
+module _ (P : Profile) (usable : Usable P) (file : List ℕ) (bytes : Bytes file) (vs : List ℕ) (accepts : checkOf P file ≡ accepted vs) where
   abbrev F : Filter
-  F = filterIn large file
+  F = filterIn P file
 
-  sound : Sound large file
-  sound = check-sound large file vs accepts .0
+  sound : Sound P file
+  sound = check-sound P file vs accepts .0
 
-  writable : Writable large F
-  writable = read-writable large large-usable file sound
+  writable : Writable P F
+  writable = read-writable P usable file sound
 
   few : states F ≤ 256
-  few = rw (length-filter large file) (states-high large large-usable file)
+  few = rw (length-filter P file) (states-high P usable file)
 
   ok : inOrder F ≡ true
-  ok = writable-in-order large F writable
+  ok = writable-in-order P F writable
 
-  holds : Holds large (reducedFile file) (reduced F)
-  holds = written-holds large large-usable (reduced F) (reduced-writable large large-usable F writable)
+  holds : Holds P (reducedFile P file) (reduced F)
+  holds = written-holds P usable (reduced F) (reduced-writable P usable F writable)
 
   -- the reduced file holds the reduced filter
-  pub reduced-file-holds : filterIn large (reducedFile file) ≡ reduced F
+  pub reduced-file-holds : filterIn P (reducedFile P file) ≡ reduced F
   unfolding filterIn
   reduced-file-holds =
       let h = holds in
       λ i. record { colours = h .colours-are i; labels = h .labels-are i; start = h .start-is i; edges = h .edges-are i }
 
   -- it is accepted
-  pub reduced-file-accepted : checkOf large (reducedFile file) ≡ accepted (numbersIn large (reducedFile file))
-  reduced-file-accepted = file-accepted large large-usable file bytes vs accepts
+  pub reduced-file-accepted : checkOf P (reducedFile P file) ≡ accepted (numbersIn P (reducedFile P file))
+  reduced-file-accepted = file-accepted P usable file bytes vs accepts
 
   -- and traces every sequence, of any length, that the file traces, with the same colours
-  pub reduced-file-traces : (ys : List ℕ) → Traces file ys → Traces (reducedFile file) ys × (Shows (reducedFile file) ys ≡ Shows file ys)
+  pub reduced-file-traces : (ys : List ℕ) → Traces P file ys → Traces P (reducedFile P file) ys × (Shows P (reducedFile P file) ys ≡ Shows P file ys)
   reduced-file-traces ys t =
       let r = reduced-traces F few ok ys t in
       (ap (λ (G : Filter). stops G ys) reduced-file-holds ∙ r .0, ap (λ (G : Filter). shown G ys) reduced-file-holds ∙ r .1)
@@ -116,75 +119,75 @@ ride-all none h = refl
 ride-all (some i) h = clash cc
 
 -- What a trace that answers *traced* tells of the file.
-record AllTraced (file ys room room′ : List ℕ) : Type 0 where
-  checks : (us : List ℕ) × (checkOf large file ≡ accepted us)
+record AllTraced (P : Profile) (file ys room room′ : List ℕ) : Type 0 where
+  checks : (us : List ℕ) × (checkOf P file ≡ accepted us)
   few-enough : (ltb 65535 (length ys) || ltb (length room) (length ys + 1)) ≡ false
-  labels-in : firstOutside (labelsIn large file) ys ≡ none
-  traces : Traces file ys
-  shows : room′ ≡ laid (Shows file ys) room
+  labels-in : firstOutside (labelsIn P file) ys ≡ none
+  traces : Traces P file ys
+  shows : room′ ≡ laid (Shows P file ys) room
 
-all-traced : (file ys room room′ : List ℕ) → TracePromise large file ys room traced.All room′ → AllTraced file ys room room′
+all-traced : (P : Profile) (file ys room room′ : List ℕ) → TracePromise P file ys room traced.All room′ → AllTraced P file ys room room′
 unfolding traceOf
-all-traced file ys room room′ p =
-    let a = onward-accepted (checkOf large file) _ _ (sym (p .answer)) in
+all-traced P file ys room room′ p =
+    let a = onward-accepted (checkOf P file) _ _ (sym (p .answer)) in
     let b = test-accepted (ltb 65535 (length ys) || ltb (length room) (length ys + 1)) 12 _ _ (a .2) in
-    let c = labels-accepted (firstOutside (labelsIn large file) ys) _ _ (b .1) in
+    let c = labels-accepted (firstOutside (labelsIn P file) ys) _ _ (b .1) in
     record {
       checks = (a .0, a .1);
       few-enough = b .0;
       labels-in = c .0;
-      traces = ride-all (stops (filterIn large file) ys) (c .1);
-      shows = p .colours-after ∙ ap (λ (o : Outcome). roomAfter o (Shows file ys) room) (sym (p .answer));
+      traces = ride-all (stops (filterIn P file) ys) (c .1);
+      shows = p .colours-after ∙ ap (λ (o : Outcome). roomAfter o (Shows P file ys) room) (sym (p .answer));
     }
 
 -- What a reduction that answers with counts tells of the file and of the answer room.
-record Folded (file answer answer′ : List ℕ) (c : Counts) : Type 0 where
-  checks : (us : List ℕ) × (checkOf large file ≡ accepted us)
-  length-is : c .length ≡ lengthOf large (reduced (filterIn large file))
-  room : answer′ ≡ laid (reducedFile file) answer
+record Folded (P : Profile) (file : List ℕ) (found left : Rooms) (c : Counts) : Type 0 where
+  checks : (us : List ℕ) × (checkOf P file ≡ accepted us)
+  length-is : c .length ≡ lengthOf P (reduced (filterIn P file))
+  room : left .answer ≡ laid (reducedFile P file) (found .answer)
 
-folded : (file answer classes answer′ classes′ : List ℕ) (c : Counts) → ReducePromise large file answer classes (answers.Accepted c) answer′ classes′ → Folded file answer answer′ c
+folded : (P : Profile) (file : List ℕ) (found left : Rooms) (c : Counts) → ReducePromise P file found (answers.Accepted c) left → Folded P file found left c
 unfolding reduceOf countsOf
-folded file answer classes answer′ classes′ c p =
-    let a = onward-accepted (checkOf large file) _ _ (sym (p .answers)) in
-    let b = first-accepted (reduceTests large file (length answer) (length classes)) _ _ (a .2) .1 in
+folded P file found left c p =
+    let a = onward-accepted (checkOf P file) _ _ (sym (p .answers)) in
+    let b = first-accepted (reduceTests P file found) _ _ (a .2) .1 in
     record {
       checks = (a .0, a .1);
       length-is = cc (sym b);
-      room = p .answer-after ∙ ap (λ (o : Outcome). roomAfter o (reducedFile file) answer) (sym (p .answers));
+      room = p .answer-after ∙ ap (λ (o : Outcome). roomAfter o (reducedFile P file) (found .answer)) (sym (p .answers));
     }
 
 or-false : (a b : Bool) → a || b ≡ false → (a ≡ false) × (b ≡ false)
 or-false true b h = clash cc
 or-false false b h = (refl, h)
 
-labels-kept : (s : List ℕ) → reduced (filterIn large s) .labels ≡ labelsIn large s
+labels-kept : (P : Profile) (s : List ℕ) → reduced (filterIn P s) .labels ≡ labelsIn P s
 unfolding reduced merged filterIn
-labels-kept s = refl
+labels-kept P s = refl
 
 -- If reduce answers with a file and trace of the original answers *traced*, then trace of the first `length` bytes of the answer room
 -- answers *traced* too, in any room that is long enough, and the two rooms begin with the same colours.
-pub reduce-then-trace : (file answer classes answer′ classes′ : List ℕ) (c : Counts) → Bytes file → ReducePromise large file answer classes (answers.Accepted c) answer′ classes′ →
-    (ys room room′ : List ℕ) → TracePromise large file ys room traced.All room′ →
-    (r : Traced) (other other′ : List ℕ) → length ys < length other → TracePromise large (take (c .length) answer′) ys other r other′ →
-    (r ≡ traced.All) × (room′ ≡ laid (Shows file ys) room) × (other′ ≡ laid (Shows file ys) other)
+pub reduce-then-trace : (P : Profile) → Usable P → (file : List ℕ) (found left : Rooms) (c : Counts) → Bytes file → ReducePromise P file found (answers.Accepted c) left →
+    (ys room room′ : List ℕ) → TracePromise P file ys room traced.All room′ →
+    (r : Traced) (other other′ : List ℕ) → length ys < length other → TracePromise P (take (c .length) (left .answer)) ys other r other′ →
+    (r ≡ traced.All) × (room′ ≡ laid (Shows P file ys) room) × (other′ ≡ laid (Shows P file ys) other)
 unfolding traceOf
-reduce-then-trace file answer classes answer′ classes′ c bytes hr ys room room′ ht r other other′ long h =
-    let f = folded file answer classes answer′ classes′ c hr in
-    let t = all-traced file ys room room′ ht in
+reduce-then-trace P usable file found left c bytes hr ys room room′ ht r other other′ long h =
+    let f = folded P file found left c hr in
+    let t = all-traced P file ys room room′ ht in
     let us = f .checks .0 in
     let accepts = f .checks .1 in
-    let R = reduced (filterIn large file) in
-    let w = reduced-writable large large-usable (filterIn large file) (writable file bytes us accepts) in
-    let is : take (c .length) answer′ ≡ reducedFile file =
-    ap (take (c .length)) (f .room) ∙ take-at (reducedFile file) (drop (length (reducedFile file)) answer) (c .length) (length-written large large-usable R w ∙ sym (f .length-is)) in
-    let labels : labelsIn large (reducedFile file) ≡ labelsIn large file = holds file bytes us accepts .labels-are ∙ labels-kept file in
-    let kept = reduced-file-traces file bytes us accepts ys (t .traces) in
+    let R = reduced (filterIn P file) in
+    let w = reduced-writable P usable (filterIn P file) (writable P usable file bytes us accepts) in
+    let is : take (c .length) (left .answer) ≡ reducedFile file =
+    ap (take (c .length)) (f .room) ∙ take-at (reducedFile P file) (drop (length (reducedFile P file)) (found .answer)) (c .length) (length-written P usable R w ∙ sym (f .length-is)) in
+    let labels : labelsIn P (reducedFile P file) ≡ labelsIn P file = holds P usable file bytes us accepts .labels-are ∙ labels-kept P file in
+    let kept = reduced-file-traces P usable file bytes us accepts ys (t .traces) in
     let few = or-false (ltb 65535 (length ys)) (ltb (length room) (length ys + 1)) (t .few-enough) .0 in
     let roomy : ltb (length other) (length ys + 1) ≡ false = le-ltb (length other) (length ys + 1) (omega arith) in
-    let answer-is : traceOf large (reducedFile file) ys (length other) ≡ rideOutcome none =
-    rw (reduced-file-accepted file bytes us accepts, few, roomy, labels, t .labels-in, kept .0) in
-    let p : TracePromise large (reducedFile file) ys other r other′ = subst (λ (s : List ℕ). TracePromise large s ys other r other′) is h in (
+    let answer-is : traceOf P (reducedFile P file) ys (length other) ≡ rideOutcome none =
+    rw (reduced-file-accepted P usable file bytes us accepts, few, roomy, labels, t .labels-in, kept .0) in
+    let p : TracePromise P (reducedFile P file) ys other r other′ = subst (λ (s : List ℕ). TracePromise P s ys other r other′) is h in (
       traced-one r traced.All (p .answer ∙ answer-is),
       t .shows,
       p .colours-after ∙ ap₂ (λ (o : Outcome) (cs : List ℕ). roomAfter o cs other) answer-is (kept .1),

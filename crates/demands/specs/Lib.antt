@@ -1,2 +1,3 @@
 pub mod Rides
+pub mod RoundTrip
 pub mod Demand3

@@ -4,18 +4,20 @@ use Prim.Native.Nat.{ℕ, _+_}
 use mathlib.Core.Path.{_≡_, refl}
 use mathlib.Core.List.{List, [], _∷_, map}
 use lib.ListN.{length}
-use Rattle.bits.specs.Bits.{bitAt, field, splice, putBit, putField, fields, putFields}
+use Rattle.bits.specs.Bits.{bitAt, field, splice, putBit, putField}
+use Rattle.pen.specs.Runs.{fields, putFields}
 use Rattle.meaning.specs.Filter.{inside, comesBefore, samePlace}
 use Rattle.meaning.specs.Search.{any, least, count, tab}
 use Rattle.meaning.specs.Classes.{initial, parted, first, free, groups, split, round, chosen, begin, cut, run, reduction, classes, number}
 use Rattle.meaning.specs.Reduced.{apart, conflict, live, reduce, nameOf, mapped, class-edge, edge′, cell, row, listed, merged, reduced, classList, distinct}
 use Rattle.meaning.specs.Trace.{target, edge, colour, ridden, halted, shown, stops}
-use Rattle.file.specs.Layout.{large, headerBits, edgeBits, edgesBegin, fileBits, bytesFor, fileLength, fillBits, edgeWidths, fileWidths, flat, fileValues, lengthOf, written}
-use Rattle.file.specs.Contents.{statesIn, labelsIn, startIn, countIn, coloursIn, edgeAt, edgesFrom, edgesIn, filterIn, lengthIn, fillingIn}
-use Rattle.file.specs.Answers.{Outcome, accepted, refused}
-use Rattle.file.specs.Refusals.{edgeFault, firstFault, fileTests, checkOf, roomAfter}
+use Rattle.layout.specs.Layout.{large, headerBits, edgeBits, edgesBegin, fileBits, bytesFor, fileLength, fillBits, edgeWidths, fileWidths, flat, fileValues, lengthOf, written}
+use Rattle.layout.specs.Contents.{statesIn, labelsIn, startIn, countIn, coloursIn, edgeAt, edgesFrom, edgesIn, filterIn, lengthIn, fillingIn}
+use Rattle.refusals.specs.Refusals.{Outcome, accepted, refused, roomAfter}
+use Rattle.edges.specs.Faults.{edgeFault, firstFault}
+use Rattle.files.specs.Files.{fileTests, checkOf}
 use Rattle.tracing.specs.Tracing.{firstOutside, traceOf}
-use Rattle.reduction.specs.Reducing.{countsOf, reduceOf}
+use Rattle.reduction.specs.Reducing.{rooms, countsOf, reduceOf}
 
 -- The bytes of a file; a refusal, or n, m, start and e; of an accepted file its colours, its edges as bytes, and the bytes that
 -- packing these gives; what reducing it answers, the reduced file, and the new number of each state; and observations with what
@@ -166,7 +168,7 @@ unfoldable pub done : Ride → Ride
 done r =
     let s = r .file in
     let F = filterIn large s in
-    let reducing = reduceOf large s (length s) (statesIn large s) in
+    let reducing = reduceOf large s (rooms s (coloursIn large s)) in
     let tracing = traceOf large s (r .observations) (length (r .observations) + 1) in
     record {
       file = s;

@@ -14,16 +14,22 @@ use Rattle.meaning.specs.Pick.{pick}
 use Rattle.meaning.specs.Cases.{clash, and-left}
 use Rattle.meaning.specs.Filter.{Edge, states}
 use Rattle.meaning.specs.Trace.{later, stops}
-use Rattle.file.specs.Layout.{large}
-use Rattle.file.specs.Contents.{statesIn, labelsIn, edgesIn, filterIn}
-use Rattle.file.specs.Answers.{Outcome, accepted, refused}
-use Rattle.file.specs.Refusals.{Test, firstOf, Fault, edgeFault, faultAt, firstFault, edgesThen, fileTests, checkOf, onward, unpackTests, unpackOf, holdable, writeTests, writeOf, packOf, listed, roomTest}
-use Rattle.file.proofs.Bounds.{large-usable, count-high}
-use Rattle.file.proofs.Files.{length-edges-in}
-use Rattle.file.proofs.Tests.{Passed, held}
+use Rattle.layout.specs.Layout.{large, listed}
+use Rattle.layout.specs.Contents.{statesIn, labelsIn, edgesIn, filterIn}
+use Rattle.refusals.specs.Refusals.{Outcome, accepted, refused, Test, firstOf, onward, roomTest}
+use Rattle.edges.specs.Faults.{Fault, edgeFault, faultAt, firstFault, edgesThen}
+use Rattle.files.specs.Files.{fileTests, checkOf, holdable, writeTests, writeOf}
+use Rattle.unpacking.specs.Promise.{unpackTests, unpackOf}
+use Rattle.packing.specs.Promise.{packOf}
+use Rattle.layout.proofs.Bounds.{large-usable, count-high}
+use Rattle.files.specs.Written.{length-edges-in}
+use Rattle.refusals.proofs.Laws.{Passed}
+use Rattle.files.specs.Tests.{held}
 use Rattle.tracing.specs.Answers.{rideOutcome}
 use Rattle.tracing.specs.Tracing.{traceTests, firstOutside, labelsThen, traceOf}
 use Rattle.reduction.specs.Reducing.{reduceTests, reduceOf}
+use Rattle.reduction.specs.Reducing as reduction
+use Rattle.unpacking.specs.Promise as unpacking
 
 -- a refusal of this answer has a small place
 abbrev pub Low : Outcome → Type 0
@@ -73,9 +79,9 @@ check-low s =
     (λ f e. omega (arith, fault-low _ _ 0 none (edgesIn large s) f e, length-edges-in large s, count-high large large-usable s))
     (low-accepted _))
 
-pub unpack-low : (s : List ℕ) (c e : ℕ) → Low (unpackOf large s c e)
+pub unpack-low : (s : List ℕ) (room : unpacking.Rooms) → Low (unpackOf large s room)
 unfolding unpackOf
-unpack-low s c e = low-onward (checkOf large s) _ (check-low s) (low-first (unpackTests large s c e) _ (λ _. low-accepted _))
+unpack-low s room = low-onward (checkOf large s) _ (check-low s) (low-first (unpackTests large s room) _ (λ _. low-accepted _))
 
 pub pack-low : (cs es : List ℕ) (m st room : ℕ) → Low (packOf large cs es m st room)
 unfolding packOf writeOf writeTests
@@ -122,6 +128,6 @@ trace-low s ys room = low-onward (checkOf large s) _ (check-low s) (low-first (t
     (λ i e. omega (arith, outside-low (labelsIn large s) ys i e, ltb-false 65535 (length ys) (or-first (ltb 65535 (length ys)) _ (p .0))))
     (low-ride (stops (filterIn large s) ys)))
 
-pub reduce-low : (s : List ℕ) (a c : ℕ) → Low (reduceOf large s a c)
+pub reduce-low : (s : List ℕ) (room : reduction.Rooms) → Low (reduceOf large s room)
 unfolding reduceOf
-reduce-low s a c = low-onward (checkOf large s) _ (check-low s) (low-first (reduceTests large s a c) _ (λ _. low-accepted _))
+reduce-low s room = low-onward (checkOf large s) _ (check-low s) (low-first (reduceTests large s room) _ (λ _. low-accepted _))

@@ -2,7 +2,7 @@
 use Prim.Native.Nat.{ℕ, _+_, _*_}
 use mathlib.Core.Path.{_≡_, _∙_}
 use mathlib.Core.List.{List}
-use Rattle.file.specs.Answers.{Outcome, accepted, refused}
+use Rattle.refusals.specs.Refusals.{Outcome, accepted, refused}
 use Rattle.pierhollow.specs.Codes.{stored, Told}
 
 pub told-accepted : (o : Outcome) (vs values : List ℕ) (r : ℕ) (values′ : List ℕ) → o ≡ accepted vs → r ≡ 0 → values′ ≡ stored 0 vs values → Told o values r values′

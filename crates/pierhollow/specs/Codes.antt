@@ -4,7 +4,7 @@ use Prim.Native.Nat.{ℕ, suc, _+_, _*_}
 use mathlib.Core.Path.{_≡_}
 use mathlib.Core.List.{List, [], _∷_}
 use lib.ListN.{set}
-use Rattle.file.specs.Answers.{Outcome, accepted, refused}
+use Rattle.refusals.specs.Refusals.{Outcome, accepted, refused}
 
 -- 0 for accepted, else place times 256 plus the paper's number.
 abbrev pub codeOf : Outcome → ℕ

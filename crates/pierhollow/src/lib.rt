@@ -1,17 +1,19 @@
 // The calls for C. Each returns 0 for accepted, else the refusal's place times 256 plus its number; include/pierhollow.h says which
 // value stands where in the lent array.
-use file::Checked;
-use file::Packed;
-use file::Reading;
-use file::Refusal;
-use file::Unpacked;
+use checking::Checked;
+use layout::Reading;
+use packing::Packed;
 use reduction::Counts;
 use reduction::Reduced;
+use refusals::Refusal;
 use tracing::Traced;
+use unpacking::Unpacked;
 ghost use mathlib.Core.Path.{_≡_};
 ghost use mathlib.Core.List.{_∷_, []};
 ghost use Prim.Native.Nat.{_+_, _*_, _<_};
-ghost use Rattle.file.specs.Answers.{numberOf};
+ghost use Rattle.refusals.specs.Refusals.{numberOf};
+ghost use Rattle.unpacking.specs.Promise as unpacking;
+ghost use Rattle.reduction.specs.Reducing as reduction;
 ghost use Rattle.pierhollow.specs.Codes.{stored};
 ghost use Rattle.pierhollow.specs.Promise.{CheckToC, UnpackToC, PackToC, TraceToC, ReduceToC};
 
@@ -19,7 +21,7 @@ ghost use Rattle.pierhollow.specs.Promise.{CheckToC, UnpackToC, PackToC,
 pub extern "C" fn pierhollow_check(file: &[u8], values: &mut [u64; 4]) -> u64
     ensures { λ r. ⌜ CheckToC (now (file .entry)) (now (values .entry)) r (now (values .exit)) ⌝ }
 {
-    match file::check(file) {
+    match checking::check(file) {
         Checked::Accepted(reading) => tell_reading(reading, values),
         Checked::Refused(why) => code(why),
     }
@@ -32,9 +34,10 @@ pub extern "C" fn pierhollow_unpack(
     edges: &mut [u8],
     values: &mut [u64; 4],
 ) -> u64
-    ensures { λ r. ⌜ UnpackToC (now (file .entry)) (now (colours .entry)) (now (edges .entry)) (now (values .entry)) r (now (colours .exit)) (now (edges .exit)) (now (values .exit)) ⌝ }
+    ensures { λ r. ⌜ UnpackToC (now (file .entry)) (unpacking.rooms (now (colours .entry)) (now (edges .entry))) (now (values .entry))
+        r (unpacking.rooms (now (colours .exit)) (now (edges .exit))) (now (values .exit)) ⌝ }
 {
-    match file::unpack(file, colours, edges) {
+    match unpacking::unpack(file, colours, edges) {
         Unpacked::Accepted(reading) => tell_reading(reading, values),
         Unpacked::Refused(why) => code(why),
     }
@@ -49,9 +52,10 @@ pub extern "C" fn pierhollow_pack(
     room: &mut [u8],
     values: &mut [u64; 1],
 ) -> u64
-    ensures { λ r. ⌜ PackToC (now (colours .entry)) (now (edges .entry)) m start (now (room .entry)) (now (values .entry)) r (now (room .exit)) (now (values .exit)) ⌝ }
+    ensures { λ r. ⌜ PackToC (now (colours .entry)) (now (edges .entry)) m start (now (room .entry)) (now (values .entry))
+        r (now (room .exit)) (now (values .exit)) ⌝ }
 {
-    match file::pack(colours, edges, m, start, room) {
+    match packing::pack(colours, edges, m, start, room) {
         Packed::Accepted(length) => tell_length(length, values),
         Packed::Refused(why) => code(why),
     }
@@ -64,7 +68,8 @@ pub extern "C" fn pierhollow_trace(
     colours: &mut [u8],
     values: &mut [u64; 2],
 ) -> u64
-    ensures { λ r. ⌜ TraceToC (now (file .entry)) (now (observations .entry)) (now (colours .entry)) (now (values .entry)) r (now (colours .exit)) (now (values .exit)) ⌝ }
+    ensures { λ r. ⌜ TraceToC (now (file .entry)) (now (observations .entry)) (now (colours .entry)) (now (values .entry))
+        r (now (colours .exit)) (now (values .exit)) ⌝ }
 {
     match tracing::trace(file, observations, colours) {
         Traced::All => tell_ride(0, 0, values),
@@ -80,7 +85,8 @@ pub extern "C" fn pierhollow_reduce(
     classes: &mut [u16],
     values: &mut [u64; 4],
 ) -> u64
-    ensures { λ r. ⌜ ReduceToC (now (file .entry)) (now (answer .entry)) (now (classes .entry)) (now (values .entry)) r (now (answer .exit)) (now (classes .exit)) (now (values .exit)) ⌝ }
+    ensures { λ r. ⌜ ReduceToC (now (file .entry)) (reduction.rooms (now (answer .entry)) (now (classes .entry))) (now (values .entry))
+        r (reduction.rooms (now (answer .exit)) (now (classes .exit))) (now (values .exit)) ⌝ }
 {
     match reduction::reduce(file, answer, classes) {
         Reduced::Accepted(counts) => tell_counts(counts, values),
@@ -88,22 +94,17 @@ pub extern "C" fn pierhollow_reduce(
     }
 }
 
-fn wide(x: u8) -> u64
-    ensures { λ r. ⌜ (r ≡ x) × (r < 256) ⌝ }
-{
-    x as u64
-}
-
 fn code(why: Refusal) -> u64
     requires { ⌜ why .place < 65536 ⌝ }
     ensures { λ r. ⌜ r ≡ why .place * 256 + numberOf (why .kind) ⌝ }
 {
     let kind = why.kind;
-    why.place as u64 * 256 + wide(file::number(kind))
+    why.place as u64 * 256 + arrays::wide_byte(refusals::number(kind)) as u64
 }
 
 fn tell_reading(reading: Reading, values: &mut [u64; 4]) -> u64
-    ensures { λ r. ⌜ (r ≡ 0) × (now (values .exit) ≡ stored 0 (reading .states ∷ reading .labels ∷ reading .start ∷ reading .edges ∷ []) (now (values .entry))) ⌝ }
+    ensures { λ r. ⌜ (r ≡ 0) × (now (values .exit)
+        ≡ stored 0 (reading .states ∷ reading .labels ∷ reading .start ∷ reading .edges ∷ []) (now (values .entry))) ⌝ }
 {
     values[0] = reading.states as u64;
     values[1] = reading.labels as u64;
@@ -128,7 +129,8 @@ fn tell_ride(stopped: u64, i: usize, values: &mut [u64; 2]) -> u64
 }
 
 fn tell_counts(counts: Counts, values: &mut [u64; 4]) -> u64
-    ensures { λ r. ⌜ (r ≡ 0) × (now (values .exit) ≡ stored 0 (counts .states ∷ counts .colours ∷ counts .rounds ∷ counts .length ∷ []) (now (values .entry))) ⌝ }
+    ensures { λ r. ⌜ (r ≡ 0) × (now (values .exit)
+        ≡ stored 0 (counts .states ∷ counts .colours ∷ counts .rounds ∷ counts .length ∷ []) (now (values .entry))) ⌝ }
 {
     values[0] = counts.states as u64;
     values[1] = counts.colours as u64;

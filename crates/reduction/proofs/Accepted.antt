@@ -19,14 +19,15 @@ use Rattle.meaning.specs.Classes.{classes}
 use Rattle.meaning.specs.Reduced.{has, nameOf, edge′, listed, merged, reduce, reduced}
 use Rattle.meaning.specs.Listing.{cells-max, listed-length}
 use Rattle.meaning.specs.Demand.{reduced-in-order, reduced-bound, reduced-edges}
-use Rattle.file.specs.declared.Profile.{Profile}
-use Rattle.file.specs.Layout.{headerBits, edgeBits, edgesBegin, fileBits, bytesFor, fileLength, lengthOf, written}
-use Rattle.file.specs.Code.{Usable}
-use Rattle.file.specs.Contents.{filterIn}
-use Rattle.file.specs.Answers.{accepted}
-use Rattle.file.specs.Refusals.{allBelow, numbersIn, checkOf}
-use Rattle.file.proofs.Tests.{Sound, check-sound, sound-check, Writable, writable-in-order, clear-order}
-use Rattle.file.proofs.Files.{at-below, colours-fit, states≤256, length-written, written-sound, read-writable, read-back}
+use Rattle.layout.specs.declared.Profile.{Profile}
+use Rattle.layout.specs.Layout.{headerBits, edgeBits, edgesBegin, fileBits, bytesFor, fileLength, lengthOf, written}
+use Rattle.layout.specs.Code.{Usable}
+use Rattle.layout.specs.Contents.{filterIn}
+use Rattle.refusals.specs.Refusals.{accepted}
+use Rattle.files.specs.Files.{allBelow, numbersIn, checkOf}
+use Rattle.files.specs.Tests.{Sound, check-sound, sound-check, Writable, writable-in-order}
+use Rattle.edges.proofs.Tests.{clear-order}
+use Rattle.files.specs.Written.{at-below, colours-fit, states≤256, length-written, written-sound, read-writable, read-back}
 
 module _ (P : Profile) (ok : Usable P) (F : Filter) (w : Writable P F) where
   in-order : inOrder F ≡ true

@@ -8,7 +8,7 @@ use denote.Ref.{now}
 use denote.Triple.Clauses.{AtExit}
 use mathlib.Core.Path.{_≡_, ap, sym, _∙_}
 use Rattle.meaning.specs.Cases.{clash}
-use Rattle.file.proofs.Unique.{refusal-one}
+use Rattle.refusals.proofs.Laws.{refusal-one}
 use Rattle.reduction.specs.declared.Counts.{Counts}
 use Rattle.reduction.specs.declared.Reduced.{Reduced}
 use Rattle.reduction.specs.declared.Reduced.the-variants as reduced

@@ -1,7 +1,7 @@
 -- The reduce call's answer as values (document 01, "Reducing").
 -- Assumes nothing.
 use mathlib.Core.List.{[], _∷_}
-use Rattle.file.specs.Answers.{Outcome, accepted, refusalOutcome}
+use Rattle.refusals.specs.Refusals.{Outcome, accepted, refusalOutcome}
 use Rattle.reduction.specs.declared.Counts.{Counts}
 use Rattle.reduction.specs.declared.Reduced.{Reduced}
 use Rattle.reduction.specs.declared.Reduced.the-variants as reduced

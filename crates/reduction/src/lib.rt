@@ -1,22 +1,14 @@
 // Reducing a filter file.
-use file::Checked;
-use file::Kind;
-use file::Reading;
-use file::Refusal;
-ghost use mathlib.Core.Path.{_≡_};
-ghost use mathlib.Core.List.{_∷_, []};
-ghost use Prim.Native.Nat.{_*_, _≤_};
-ghost use lib.ListN.{length, replicate};
-ghost use Rattle.meaning.specs.Trace.{edge};
-ghost use Rattle.meaning.specs.Reduced.{reduced, classList};
-ghost use Rattle.file.specs.Layout.{large, written};
-ghost use Rattle.file.specs.Contents.{statesIn, filterIn};
-ghost use Rattle.file.specs.Answers.{accepted, readingOutcome, checkedOutcome};
-ghost use Rattle.file.specs.Refusals.{onward, checkOf, laid};
-ghost use Rattle.table.specs.Table.{look};
-ghost use Rattle.reduction.specs.Answers.{countsOutcome, reducedOutcome};
-ghost use Rattle.reduction.specs.Reducing.{countsOf};
-ghost use Rattle.reduction.specs.Promise.{ReducePromise};
+use checking::Checked;
+use layout::Profile;
+use layout::Reading;
+use refusals::Kind;
+use refusals::Refusal;
+ghost use Rattle.layout.specs.Layout.{large};
+ghost use Rattle.table.specs.Table.{table};
+ghost use Rattle.loading.specs.Loading.{Loadable, Tabled};
+ghost use Rattle.reduction.specs.Reducing.{rooms};
+ghost use Rattle.reduction.specs.Promise.{ReducePromise, Foldable, Folded};
 
 // Of a reduced filter: its states, its distinct colours, the rounds made, and its file's length in bytes.
 pub struct Counts {
@@ -33,89 +25,111 @@ pub enum Reduced {
 
 // Writes the file of the reduced filter, and the new number of each state.
 pub fn reduce(file: &[u8], answer: &mut [u8], classes: &mut [u16]) -> Reduced
-    ensures { λ r. ⌜ ReducePromise large (now (file .entry)) (now (answer .entry)) (now (classes .entry)) r (now (answer .exit)) (now (classes .exit)) ⌝ }
+    ensures { λ r. ⌜ ReducePromise large (now (file .entry)) (rooms (now (answer .entry)) (now (classes .entry)))
+        r (rooms (now (answer .exit)) (now (classes .exit))) ⌝ }
 {
-    let n = table::states(file);
+    // The shortest table with a row for each state.
+    let n = layout::states(layout::large(), file);
     if n <= 16 {
-        let mut table = table::small();
-        return reduce_with(&mut table, file, answer, classes);
+        let mut targets = table::small_targets();
+        let mut labels = table::small_labels();
+        return reduce_with(&mut targets, &mut labels, file, answer, classes);
     }
     if n <= 64 {
-        let mut table = table::middle();
-        return reduce_with(&mut table, file, answer, classes);
+        let mut targets = table::middle_targets();
+        let mut labels = table::middle_labels();
+        return reduce_with(&mut targets, &mut labels, file, answer, classes);
     }
-    let mut table = table::whole();
-    reduce_with(&mut table, file, answer, classes)
+    let mut targets = table::all_targets();
+    let mut labels = table::all_labels();
+    reduce_with(&mut targets, &mut labels, file, answer, classes)
 }
 
 // The same with an empty table that has a row for each state.
-fn reduce_with(table: &mut [u16], file: &[u8], answer: &mut [u8], classes: &mut [u16]) -> Reduced
-    requires { ⌜ (now table ≡ replicate (length (now table)) 65535) × (statesIn large (now file) * 64 ≤ length (now table)) ⌝ }
-    ensures { λ r. ⌜ ReducePromise large (now (file .entry)) (now (answer .entry)) (now (classes .entry)) r (now (answer .exit)) (now (classes .exit)) ⌝ }
+fn reduce_with(
+    targets: &mut [u8],
+    labels: &mut [u64],
+    file: &[u8],
+    answer: &mut [u8],
+    classes: &mut [u16],
+) -> Reduced
+    requires { ⌜ Loadable large (now file) (table (now targets) (now labels)) ⌝ }
+    ensures { λ r. ⌜ ReducePromise large (now (file .entry)) (rooms (now (answer .entry)) (now (classes .entry)))
+        r (rooms (now (answer .exit)) (now (classes .exit))) ⌝ }
 {
-    let checked = table::read(table, file);
+    let checked = loading::load(targets, labels, file);
+    reduce_as(
+        layout::large(),
+        checked,
+        targets,
+        labels,
+        file,
+        answer,
+        classes,
+    )
+}
+
+// The same for any widths, of a file that was checked and put into the table.
+fn reduce_as(
+    p: Profile,
+    checked: Checked,
+    targets: &mut [u8],
+    labels: &mut [u64],
+    file: &[u8],
+    answer: &mut [u8],
+    classes: &mut [u16],
+) -> Reduced
+    requires { ⌜ Tabled p (now file) checked (table (now targets) (now labels)) ⌝ }
+    ensures { λ r. ⌜ ReducePromise p (now (file .entry)) (rooms (now (answer .entry)) (now (classes .entry)))
+        r (rooms (now (answer .exit)) (now (classes .exit))) ⌝ }
+{
     let Checked::Accepted(reading) = checked else {
-        return passed_on(checked);
+        return Reduced::Refused(checking::refusal(checked));
     };
     // A reduced file is never longer than its original, so this is decided before any reducing.
     if answer.len() < file.len() {
-        return refused(Kind::AnswerRoom);
+        return Reduced::Refused(refusals::plain(Kind::AnswerRoom));
     }
     if classes.len() < reading.states {
-        return refused(Kind::ClassRoom);
+        return Reduced::Refused(refusals::plain(Kind::ClassRoom));
     }
-    Reduced::Accepted(fold(table, file, reading, answer, classes))
-}
-
-// A check's refusal as reduce's own.
-fn passed_on(answer: Checked) -> Reduced
-    ensures { λ r. ⌜ reducedOutcome r ≡ onward (checkedOutcome answer) (accepted (0 ∷ 0 ∷ 0 ∷ 0 ∷ [])) ⌝ }
-{
-    match answer {
-        Checked::Accepted(_) => Reduced::Accepted(Counts {
-            states: 0,
-            colours: 0,
-            rounds: 0,
-            length: 0,
-        }),
-        Checked::Refused(why) => Reduced::Refused(why),
-    }
-}
-
-fn refused(kind: Kind) -> Reduced
-    ensures { λ r. ⌜ r ≡ Reduced.Refused (record { kind = kind; place = 0 }) ⌝ }
-{
-    Reduced::Refused(Refusal { kind, place: 0 })
-}
-
-fn wide(x: u16) -> usize
-    ensures { λ r. ⌜ r ≡ x ⌝ }
-{
-    x as usize
+    Reduced::Accepted(fold(
+        p,
+        targets,
+        labels,
+        file,
+        reading,
+        answer,
+        classes,
+    ))
 }
 
 // Reduces a file that was checked and whose edges are in the table, into rooms that are long enough.
 fn fold(
-    table: &mut [u16],
+    p: Profile,
+    targets: &mut [u8],
+    labels: &mut [u64],
     file: &[u8],
     reading: Reading,
     answer: &mut [u8],
     classes: &mut [u16],
 ) -> Counts
-    requires { ⌜ (checkOf large (now file) ≡ readingOutcome reading) × (look (now table) ≡ edge (filterIn large (now file))) × (reading .states * 64 ≤ length (now table)) × (length (now file) ≤ length (now answer)) × (reading .states ≤ length (now classes)) ⌝ }
-    ensures counts { λ r. ⌜ countsOutcome r ≡ accepted (countsOf large (filterIn large (now (file .entry)))) ⌝ }
-    ensures answer { λ r. ⌜ now (answer .exit) ≡ laid (written large (reduced (filterIn large (now (file .entry))))) (now (answer .entry)) ⌝ }
-    ensures classes { λ r. ⌜ now (classes .exit) ≡ laid (classList (filterIn large (now (file .entry)))) (now (classes .entry)) ⌝ }
+    requires { ⌜ Foldable p (now file) reading (table (now targets) (now labels)) (rooms (now answer) (now classes)) ⌝ }
+    ensures { λ r. ⌜ Folded p (now (file .entry)) (rooms (now (answer .entry)) (now (classes .entry)))
+        r (rooms (now (answer .exit)) (now (classes .exit))) ⌝ }
 {
-    let colours = table::colours_of(file, reading);
-    let ending = rounds::settled(table, &colours, reading.labels, reading.states);
+    let n = reading.states;
+    let colours = loading::colours_of(p, file, n);
+    let ending = rounds::settled(targets, labels, &colours, n);
     let last = ending.last;
     let names = last.names;
-    let made = merging::merged(table, &colours, &names, reading, answer, classes);
+    let made = merging::merged(
+        p, targets, labels, &colours, &names, reading, answer, classes,
+    );
     Counts {
         states: made.states,
         colours: ending.colours,
-        rounds: wide(last.rounds),
+        rounds: arrays::wide(last.rounds),
         length: made.length,
     }
 }

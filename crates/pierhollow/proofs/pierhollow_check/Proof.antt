@@ -5,25 +5,13 @@ use Prim.Native.Nat.{ℕ}
 use borrow.Author.Needs.{needs}
 use denote.Ref.{now}
 use lib.ListN.{length}
-use Rattle.file.specs.Layout.{large}
-use Rattle.file.specs.Answers.{checkedOutcome}
-use Rattle.file.specs.Refusals.{checkOf}
+use Rattle.layout.specs.Layout.{large}
+use Rattle.checking.specs.Promise.{checkedOutcome}
+use Rattle.files.specs.Files.{checkOf}
 use Rattle.pierhollow.proofs.Low.{check-low}
 use Rattle.pierhollow.proofs.Telling.{told-accepted, told-refused}
 use Rattle.pierhollow.proofs.pierhollow_check.Statement.{statement}
 use Rattle.pierhollow.proofs.pierhollow_check.Tie as tie
-
-check-requires : tie.Need-check-requires
-check-requires c κs = search needs
-
-enum-known-reading : tie.Need-enum-known-reading
-enum-known-reading c = search needs
-
-tell-reading-requires : tie.Need-tell-reading-requires
-tell-reading-requires c κs = search needs
-
-enum-known-why : tie.Need-enum-known-why
-enum-known-why c = search needs
 
 code-requires : tie.Need-code-requires
 code-requires c κs = let start = c .before .before .before .before .before in check-low (now (start .args .file)) _ _ (sym (c .before .before .before .check .ensures) ∙ ap checkedOutcome (c .before .why .given .1))
@@ -43,10 +31,10 @@ pub pierhollow-check-spec : {M : Type 1} → statement M
 pierhollow-check-spec =
     tie.close
     (tie.spec
-    check-requires
-    enum-known-reading
-    tell-reading-requires
-    enum-known-why
+    (λ c κs. search needs)
+    (λ c. search needs)
+    (λ c κs. search needs)
+    (λ c. search needs)
     code-requires
     returns
     returns-2)

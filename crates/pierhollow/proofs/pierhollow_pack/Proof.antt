@@ -5,31 +5,15 @@ use Prim.Native.Nat.{ℕ}
 use borrow.Author.Needs.{needs}
 use denote.Ref.{now}
 use lib.ListN.{length}
-use Rattle.file.specs.Layout.{large}
-use Rattle.file.specs.Answers.{packedOutcome}
-use Rattle.file.specs.Refusals.{packOf}
+use Rattle.layout.specs.Layout.{large}
+use Rattle.packing.specs.Promise.{packedOutcome, packOf}
 use Rattle.pierhollow.proofs.Low.{pack-low}
 use Rattle.pierhollow.proofs.Telling.{told-accepted, told-refused}
 use Rattle.pierhollow.proofs.pierhollow_pack.Statement.{statement}
 use Rattle.pierhollow.proofs.pierhollow_pack.Tie as tie
 
-pack-requires : tie.Need-pack-requires
-pack-requires c κs = search needs
-
-enum-known-length : tie.Need-enum-known-length
-enum-known-length c = search needs
-
-tell-length-requires : tie.Need-tell-length-requires
-tell-length-requires c κs = search needs
-
-enum-known-why : tie.Need-enum-known-why
-enum-known-why c = search needs
-
 code-requires : tie.Need-code-requires
 code-requires c κs = let a = c .before .before .before .before .before .before .before .before .before .before .args in pack-low (now (a .colours)) (now (a .edges)) (a .m) (a .start) (length (now (a .room))) _ _ (sym (c .before .before .before .before .before .pack .ensures .answer) ∙ ap packedOutcome (c .before .why .given .1))
-
-same-length : tie.Need-same-length
-same-length c = search needs
 
 returns : tie.Need-returns
 returns c =
@@ -39,9 +23,6 @@ returns c =
       told = told-accepted (packOf large (now (a .colours)) (now (a .edges)) (a .m) (a .start) (length (now (a .room)))) _ (now (a .values)) (c .tell-length .result) _ (sym (made .answer) ∙ ap packedOutcome (c .before .before .before .length .given .1)) (c .tell-length .ensures .0) (c .tell-length .ensures .1);
       room-after = made .room-after;
     }
-
-same-length-2 : tie.Need-same-length-2
-same-length-2 c = search needs
 
 returns-2 : tie.Need-returns-2
 returns-2 c =
@@ -56,12 +37,12 @@ pub pierhollow-pack-spec : {M : Type 1} → statement M
 pierhollow-pack-spec =
     tie.close
     (tie.spec
-    pack-requires
-    enum-known-length
-    tell-length-requires
-    enum-known-why
+    (λ c κs. search needs)
+    (λ c. search needs)
+    (λ c κs. search needs)
+    (λ c. search needs)
     code-requires
-    same-length
+    (λ c. search needs)
     returns
-    same-length-2
+    (λ c. search needs)
     returns-2)

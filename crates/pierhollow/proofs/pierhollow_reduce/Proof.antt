@@ -4,58 +4,33 @@ use mathlib.Core.List.{List}
 use Prim.Native.Nat.{ℕ}
 use borrow.Author.Needs.{needs}
 use denote.Ref.{now}
-use lib.ListN.{length}
-use Rattle.file.specs.Layout.{large}
+use Rattle.reduction.specs.Reducing.{rooms, reduceOf}
+use Rattle.layout.specs.Layout.{large}
 use Rattle.reduction.specs.Answers.{reducedOutcome}
-use Rattle.reduction.specs.Reducing.{reduceOf}
 use Rattle.pierhollow.proofs.Low.{reduce-low}
 use Rattle.pierhollow.proofs.Telling.{told-accepted, told-refused}
 use Rattle.pierhollow.proofs.pierhollow_reduce.Statement.{statement}
 use Rattle.pierhollow.proofs.pierhollow_reduce.Tie as tie
 
-reduce-requires : tie.Need-reduce-requires
-reduce-requires c κs = search needs
-
-enum-known-counts : tie.Need-enum-known-counts
-enum-known-counts c = search needs
-
-tell-counts-requires : tie.Need-tell-counts-requires
-tell-counts-requires c κs = search needs
-
-enum-known-why : tie.Need-enum-known-why
-enum-known-why c = search needs
-
 code-requires : tie.Need-code-requires
-code-requires c κs = let a = c .before .before .before .before .before .before .before .before .before .before .before .before .before .args in reduce-low (now (a .file)) (length (now (a .answer))) (length (now (a .classes))) _ _ (sym (c .before .before .before .before .before .before .before .reduce .ensures .answers) ∙ ap reducedOutcome (c .before .why .given .1))
-
-same-length : tie.Need-same-length
-same-length c = search needs
-
-same-length-2 : tie.Need-same-length-2
-same-length-2 c = search needs
+code-requires c κs = let a = c .before .before .before .before .before .before .before .before .before .before .before .before .before .args in reduce-low (now (a .file)) (rooms (now (a .answer)) (now (a .classes))) _ _ (sym (c .before .before .before .before .before .before .before .reduce .ensures .answers) ∙ ap reducedOutcome (c .before .why .given .1))
 
 returns : tie.Need-returns
 returns c =
     let a = c .before .before .before .before .before .before .before .before .before .before .before .before .before .before .before .args in
     let made = c .before .before .before .before .before .before .before .before .before .reduce .ensures in
     record {
-      told = told-accepted (reduceOf large (now (a .file)) (length (now (a .answer))) (length (now (a .classes)))) _ (now (a .values)) (c .tell-counts .result) _ (sym (made .answers) ∙ ap reducedOutcome (c .before .before .before .counts .given .1)) (c .tell-counts .ensures .0) (c .tell-counts .ensures .1);
+      told = told-accepted (reduceOf large (now (a .file)) (rooms (now (a .answer)) (now (a .classes)))) _ (now (a .values)) (c .tell-counts .result) _ (sym (made .answers) ∙ ap reducedOutcome (c .before .before .before .counts .given .1)) (c .tell-counts .ensures .0) (c .tell-counts .ensures .1);
       answer-after = made .answer-after;
       classes-after = made .classes-after;
     }
-
-same-length-3 : tie.Need-same-length-3
-same-length-3 c = search needs
-
-same-length-4 : tie.Need-same-length-4
-same-length-4 c = search needs
 
 returns-2 : tie.Need-returns-2
 returns-2 c =
     let a = c .before .before .before .before .before .before .before .before .before .before .before .before .before .before .args in
     let made = c .before .before .before .before .before .before .before .before .reduce .ensures in
     record {
-      told = told-refused (reduceOf large (now (a .file)) (length (now (a .answer))) (length (now (a .classes)))) _ _ (now (a .values)) (c .code .result) (sym (made .answers) ∙ ap reducedOutcome (c .before .before .why .given .1)) (c .code .ensures);
+      told = told-refused (reduceOf large (now (a .file)) (rooms (now (a .answer)) (now (a .classes)))) _ _ (now (a .values)) (c .code .result) (sym (made .answers) ∙ ap reducedOutcome (c .before .before .why .given .1)) (c .code .ensures);
       answer-after = made .answer-after;
       classes-after = made .classes-after;
     }
@@ -64,14 +39,14 @@ pub pierhollow-reduce-spec : {M : Type 1} → statement M
 pierhollow-reduce-spec =
     tie.close
     (tie.spec
-    reduce-requires
-    enum-known-counts
-    tell-counts-requires
-    enum-known-why
+    (λ c κs. search needs)
+    (λ c. search needs)
+    (λ c κs. search needs)
+    (λ c. search needs)
     code-requires
-    same-length
-    same-length-2
+    (λ c. search needs)
+    (λ c. search needs)
     returns
-    same-length-3
-    same-length-4
+    (λ c. search needs)
+    (λ c. search needs)
     returns-2)

@@ -5,7 +5,7 @@ use Prim.Native.Nat.{ℕ}
 use borrow.Author.Needs.{needs}
 use denote.Ref.{now}
 use lib.ListN.{length}
-use Rattle.file.specs.Layout.{large}
+use Rattle.layout.specs.Layout.{large}
 use Rattle.tracing.specs.Answers.{tracedOutcome}
 use Rattle.tracing.specs.Tracing.{traceOf}
 use Rattle.pierhollow.proofs.Low.{trace-low}
@@ -13,29 +13,11 @@ use Rattle.pierhollow.proofs.Telling.{told-accepted, told-refused}
 use Rattle.pierhollow.proofs.pierhollow_trace.Statement.{statement}
 use Rattle.pierhollow.proofs.pierhollow_trace.Tie as tie
 
-trace-requires : tie.Need-trace-requires
-trace-requires c κs = search needs
-
 enum-told : tie.Need-enum-told
 enum-told c = search needs
 
-tell-ride-requires : tie.Need-tell-ride-requires
-tell-ride-requires c κs = search needs
-
-enum-known-i : tie.Need-enum-known-i
-enum-known-i c = search needs
-
-tell-ride-requires-2 : tie.Need-tell-ride-requires-2
-tell-ride-requires-2 c κs = search needs
-
-enum-known-why : tie.Need-enum-known-why
-enum-known-why c = search needs
-
 code-requires : tie.Need-code-requires
 code-requires c κs = let a = c .before .before .before .before .before .before .before .before .before .before .args in trace-low (now (a .file)) (now (a .observations)) (length (now (a .colours))) _ _ (sym (c .before .before .before .before .before .trace .ensures .answer) ∙ ap tracedOutcome (c .before .why .given .1))
-
-same-length : tie.Need-same-length
-same-length c = search needs
 
 returns : tie.Need-returns
 returns c =
@@ -47,9 +29,6 @@ returns c =
       colours-after = made .colours-after;
     }
 
-same-length-2 : tie.Need-same-length-2
-same-length-2 c = search needs
-
 returns-2 : tie.Need-returns-2
 returns-2 c =
     let a = c .before .before .before .before .before .before .before .before .before .before .before .before .args in
@@ -59,9 +38,6 @@ returns-2 c =
           (sym (made .answer) ∙ ap tracedOutcome (c .before .before .before .i .given .1)) (c .tell-ride2 .ensures .0) (c .tell-ride2 .ensures .1);
       colours-after = made .colours-after;
     }
-
-same-length-3 : tie.Need-same-length-3
-same-length-3 c = search needs
 
 returns-3 : tie.Need-returns-3
 returns-3 c =
@@ -77,16 +53,16 @@ pub pierhollow-trace-spec : {M : Type 1} → statement M
 pierhollow-trace-spec =
     tie.close
     (tie.spec
-    trace-requires
+    (λ c κs. search needs)
     enum-told
-    tell-ride-requires
-    enum-known-i
-    tell-ride-requires-2
-    enum-known-why
+    (λ c κs. search needs)
+    (λ c. search needs)
+    (λ c κs. search needs)
+    (λ c. search needs)
     code-requires
-    same-length
+    (λ c. search needs)
     returns
-    same-length-2
+    (λ c. search needs)
     returns-2
-    same-length-3
+    (λ c. search needs)
     returns-3)

@@ -11,10 +11,10 @@ use Rattle.bits.specs.Bits.{Bytes}
 use Rattle.meaning.specs.Filter.{Filter}
 use Rattle.meaning.specs.Classes.{Classes}
 use Rattle.meaning.specs.Reduced.{reduce}
-use Rattle.file.specs.Layout.{large, written}
-use Rattle.file.specs.Contents.{filterIn}
-use Rattle.file.specs.Refusals.{laid}
-use Rattle.file.proofs.Calls.{ReadIs, reading-is}
+use Rattle.layout.specs.Layout.{large, written}
+use Rattle.layout.specs.Contents.{filterIn}
+use Rattle.refusals.specs.Refusals.{laid}
+use Rattle.files.specs.Tests.{ReadIs, reading-is}
 use Rattle.merging.specs.Merged.{Foldable}
 use Rattle.reduction.proofs.Folding.{few-states, few-labels, some-state, reduce-is, within, filter-is, foldable, list-is, counts-are}
 use Rattle.reduction.proofs.fold.Statement.{statement}

@@ -2,9 +2,9 @@
 use mathlib.Core.Path.{_≡_, ap, sym}
 use mathlib.Core.List.{_∷_, []}
 use borrow.Author.Needs.{needs}
-use Rattle.file.specs.declared.Checked.{Checked}
-use Rattle.file.specs.Answers.{accepted, checkedOutcome}
-use Rattle.file.specs.Refusals.{onward}
+use Rattle.checking.specs.declared.Checked.{Checked}
+use Rattle.refusals.specs.Refusals.{accepted, onward}
+use Rattle.checking.specs.Promise.{checkedOutcome}
 use Rattle.reduction.proofs.passed_on.Statement.{statement}
 use Rattle.reduction.proofs.passed_on.Tie as tie
 

@@ -1,6 +1,6 @@
 -- `reduction::reduce` meets its contract: whichever table a file's states take, it is long enough. Assumes nothing.
 use native.Mathlib.Omega.{arith}
-use Rattle.table.proofs.Laws.{serves}
+use Rattle.loading.proofs.Laws.{serves}
 use borrow.Author.Needs.{needs}
 use Rattle.reduction.proofs.reduce.Statement.{statement}
 use Rattle.reduction.proofs.reduce.Tie as tie

@@ -8,12 +8,13 @@ use borrow.Author.Tests.{lt-ltb, le-ltb}
 use denote.Ref.{now}
 use lib.Dec.{ltb}
 use lib.ListN.{length}
-use Rattle.file.specs.declared.Reading.{Reading}
-use Rattle.file.specs.Layout.{large}
-use Rattle.file.specs.Contents.{statesIn}
-use Rattle.file.specs.Answers.{accepted, checkedOutcome}
-use Rattle.file.specs.Refusals.{onward}
-use Rattle.file.proofs.Calls.{ReadIs, read-is}
+use Rattle.layout.specs.declared.Reading.{Reading}
+use Rattle.layout.specs.Layout.{large}
+use Rattle.layout.specs.Contents.{statesIn}
+use Rattle.refusals.specs.Refusals.{accepted, onward}
+use Rattle.checking.specs.Promise.{checkedOutcome}
+use Rattle.files.specs.Tests.{ReadIs}
+use Rattle.checking.proofs.Calls.{read-is}
 use Rattle.reduction.specs.declared.Reduced.the-variants as reduced
 use Rattle.reduction.proofs.Calls.{reduce-refused, reduce-short, reduce-few, reduce-folded}
 use Rattle.reduction.proofs.reduce_with.Statement.{statement}
