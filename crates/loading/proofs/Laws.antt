@@ -1,0 +1,195 @@
+-- Laws of loading: a table that has the edges passed so far, the table of a file, and colours with zeros behind them.
+-- Assumes nothing.
+use mathlib.Core.Path.{_≡_, refl, sym, ap, _∙_, fun-ext}
+use mathlib.Core.Bool.{true}
+use mathlib.Core.List.{List, [], _∷_, _++_}
+use mathlib.Core.Option.{Option, none, some}
+use Prim.Native.Nat.{ℕ, zero, suc, _+_, _*_, _-_, _≤_, _<_}
+use native.Mathlib.Decide.{decLt}
+use native.Mathlib.Nat.{le-antisymm, lt-of-lt-of-le}
+use native.Mathlib.Omega.{arith}
+use lib.Dec.{eqb, ltb}
+use lib.ListN.{length, getD, drop, replicate, List·getD-append, List·getD-eq-default}
+use lib.Pow.{pow-mono}
+use lib.Seq.{getD-drop, getD-append-add}
+use borrow.Author.Tests.{ltb-true}
+use Rattle.bits.proofs.Reading.{field-lt}
+use Rattle.pen.specs.Runs.{fields}
+use Rattle.meaning.specs.Cases.{clash, test, and-left, same²}
+use Rattle.meaning.specs.Demand.{fits}
+use Rattle.meaning.specs.Filter.{Edge, each, inside, ascending, states}
+use Rattle.meaning.specs.Search.{at}
+use Rattle.meaning.specs.Trace.{target, edge, colour}
+use Rattle.meaning.specs.TraceLaws.{stands, target-snoc, target-before, target-fresh}
+use Rattle.refusals.specs.declared.Refusal.{Refusal}
+use Rattle.refusals.specs.Refusals.{accepted, refusalOutcome}
+use Rattle.layout.specs.declared.Profile.{Profile}
+use Rattle.layout.specs.declared.Reading.{Reading}
+use Rattle.layout.specs.Layout.{headerBits, edgeBits, edgesBegin}
+use Rattle.layout.specs.Contents.{statesIn, labelsIn, coloursIn, edgeAt, edgesFrom, filterIn}
+use Rattle.layout.specs.Code.{edgeOf, Usable}
+use Rattle.layout.proofs.Bounds.{states-high}
+use Rattle.layout.proofs.EdgeLists.{edges-around, edges-more}
+use Rattle.edges.specs.declared.Cursor.{Cursor}
+use Rattle.edges.specs.Faults.{edgeFault, faultAt, firstFault}
+use Rattle.edges.specs.Walk.{edgeBefore, faultNext, Next, Walked}
+use Rattle.edges.proofs.Tests.{fault-free}
+use Rattle.edges.proofs.Walks.{begun, walk-begun, walk-next}
+use Rattle.files.specs.Files.{checkOf}
+use Rattle.files.specs.Tests.{HeadIs, edges-read, check-faultless}
+use Rattle.files.specs.Written.{length-filter, checked-in-order}
+use Rattle.checking.specs.declared.Checked.{Checked}
+use Rattle.checking.specs.declared.Checked.the-variants as checked
+use Rattle.checking.specs.Promise.{checkedOutcome}
+use Rattle.table.specs.Table.{Table, table, look, Rows, SameRows, withEdge, Put}
+use Rattle.table.proofs.Laws.{look-empty}
+use Rattle.loading.specs.Loading.{Loadable, Loaded}
+
+-- ---- one edge more
+
+-- an edge put into a table, behind those that are there
+look-more : (T T′ : Table) (es : List Edge) (e : Edge) (rest : List Edge) → Put T T′ (e .source) (e .label) (e .target) →
+    look T ≡ target es → ascending (es ++ (e ∷ rest)) ≡ true → look T′ ≡ target (es ++ (e ∷ []))
+unfolding withEdge
+look-more T T′ es e rest put is order = put .edges ∙ fun-ext λ s. fun-ext λ y. test (stands e s y)
+    (λ q. let here = same² (e .source) s (e .label) y q in
+    rw q (sym (target-snoc es e s y (rw (← here .0, ← here .1) (target-fresh es e rest order)) ∙ rw q)))
+    (λ q. rw q (ap (λ (f : ℕ → ℕ → Option ℕ). f s y) is ∙ sym (target-before es e s y q)))
+
+-- an edge without a fault leaves a state of the filter
+source-low : (n m i : ℕ) (before : Option Edge) (e : Edge) → faultAt i (edgeFault n m before e) none ≡ none → e .source < n
+unfolding firstFault each inside
+source-low n m i before e h =
+    let all = fault-free n m i before (e ∷ []) h .all-inside in
+    ltb-true (e .source) n (and-left (ltb (e .source) n) _ (and-left (inside n m e) _ all))
+
+-- a label of at most six bits
+label-low : (P : Profile) (s : List ℕ) (at : ℕ) → P .labels ≤ 6 → edgeAt P s at .label < 64
+unfolding edgeAt
+label-low P s at h = lt-of-lt-of-le (field-lt s (at + P .states) (P .labels)) (pow-mono {j = 6} h)
+
+-- ---- the edges passed so far
+
+module _ (P : Profile) (file : List ℕ) (at e n m : ℕ) (T₀ : Table) where
+  abbrev all : List Edge
+  all = edgesFrom P file at e
+
+  -- A walk has come to a cursor, and if no edge has a fault the table has those before it.
+  pub record Filling (T : Table) (c : Cursor) : Type 0 where
+    pub walked : Walked P file at e n m c
+    pub filled : firstFault n m none 0 all ≡ none → look T ≡ target (edgesFrom P file at (c .index))
+    pub rows : SameRows T₀ T
+
+  pub filling-begun : T₀ .labels ≡ replicate (length (T₀ .labels)) 0 → Filling T₀ (begun P file at e n m)
+  unfolding edgesFrom
+  filling-begun empty = record {
+    walked = walk-begun P file at e n m;
+    filled = λ clear. ap (λ (l : List ℕ). look (table (T₀ .targets) l)) empty ∙ look-empty (T₀ .targets) (length (T₀ .labels));
+    rows = record { targets-same = refl; labels-same = refl };
+  }
+
+  module _ (T : Table) (c : Cursor) (f : Filling T c) where
+    module _ (c′ : Cursor) (next : Next P file c c′) (clear : faultNext P file n m c ≡ none) where
+      -- the next edge can be put into the table
+      pub filling-room : P .labels ≤ 6 → Rows T₀ n → (c′ .before .label < 64) × Rows T (c′ .before .source + 1)
+      filling-room narrow room =
+          let low = source-low n m (c .index) (edgeBefore (eqb (c .index) 0) (c .before)) (edgeAt P file (c .place)) clear in
+          let is : c′ .before .source ≡ edgeAt P file (c .place) .source = ap (λ (e : Edge). e .source) (next .edge) in (
+            rw (ap (λ (e : Edge). e .label) (next .edge)) (label-low P file (c .place) narrow),
+            record {
+              targets-long = omega (arith, low, is, room .targets-long, f .rows .targets-same);
+              labels-long = omega (arith, low, is, room .labels-long, f .rows .labels-same);
+            },
+          )
+
+      pub filling-next : c .index < e → (T′ : Table) → Put T T′ (c′ .before .source) (c′ .before .label) (c′ .before .target) → Filling T′ c′
+      filling-next more T′ put =
+          let es = edgesFrom P file at (c .index) in
+          let rest = edgesFrom P file (at + edgeBits P * c .index + edgeBits P) (e - (c .index + 1)) in
+          let is : edgeAt P file (at + edgeBits P * c .index) ≡ edgeOf (c′ .before) = ap (edgeAt P file) (sym (f .walked .placed)) ∙ sym (next .edge) in
+          let parts : all ≡ es ++ (edgeOf (c′ .before) ∷ rest) = edges-around P file at e (c .index) more ∙ ap (λ (x : Edge). es ++ (x ∷ rest)) is in
+          record {
+            walked = walk-next P file at e n m c (f .walked) more c′ next clear;
+            filled = λ none-faulty.
+                look-more T T′ es (edgeOf (c′ .before)) rest put (f .filled none-faulty) (ap ascending (sym parts) ∙ fault-free n m 0 none all none-faulty .ascend)
+                ∙ ap target (sym (edges-more P file at (c .index) ∙ ap (λ (x : Edge). es ++ (x ∷ [])) is))
+                ∙ ap (λ (k : ℕ). target (edgesFrom P file at k)) (sym (next .index));
+            rows = record {
+              targets-same = put .rows .targets-same ∙ f .rows .targets-same;
+              labels-same = put .rows .labels-same ∙ f .rows .labels-same;
+            };
+          }
+
+    -- all edges are passed
+    pub filling-done : e ≤ c .index → firstFault n m none 0 all ≡ none → look T ≡ target all
+    filling-done done clear =
+        f .filled clear ∙ ap (λ (k : ℕ). target (edgesFrom P file at k)) (le-antisymm (f .walked .inside) done)
+
+-- ---- the table of a file
+
+-- a refused file leaves the table as it may be
+pub loaded-refused : (P : Profile) (file : List ℕ) (r : Checked) (why : Refusal) (T T′ : Table) → checkedOutcome r ≡ refusalOutcome why →
+    checkOf P file ≡ refusalOutcome why → SameRows T T′ → Loaded P file r T T′
+loaded-refused P file r why T T′ is h rows = record {
+  answer = is ∙ sym h;
+  edges = λ numbers k. let z : refusalOutcome why ≡ accepted numbers = sym h ∙ k in clash cc;
+  rows = rows;
+}
+
+-- of an accepted file the table has the edges as they were read
+pub loaded-accepted : (P : Profile) (file : List ℕ) (r : Reading) (T T′ : Table) → HeadIs P file r →
+    let at = edgesBegin P (r .states) in let es = edgesFrom P file at (r .edges) in
+    firstFault (r .states) (r .labels) none 0 es ≡ none → look T′ ≡ target es → SameRows T T′ → Loaded P file (checked.Accepted r) T T′
+unfolding edge filterIn
+loaded-accepted P file r T T′ is clear has rows = record {
+  answer = sym (check-faultless P file r is _ refl clear);
+  edges = λ numbers k. has ∙ ap target (edges-read P file r is _ refl);
+  rows = rows;
+}
+
+-- a fresh table of k rows serves a file whose states need no more
+pub serves : (P : Profile) (file targets labels : List ℕ) (k : ℕ) → Usable P → P .labels ≤ 6 → length targets ≡ k * 64 →
+    (labels ≡ replicate k 0) × (length labels ≡ k) → statesIn P file ≤ k → Loadable P file (table targets labels)
+serves P file targets labels k ok narrow long fresh h = record {
+  usable = ok;
+  labels≤6 = narrow;
+  empty = fresh .0 ∙ ap (λ (j : ℕ). replicate j 0) (sym (fresh .1));
+  rows = record { targets-long = omega (arith, long); labels-long = omega (arith, fresh .1) };
+}
+
+-- what the table of an accepted file gives is an edge between states of the file, at a label of the file
+pub look-within : (P : Profile) → Usable P → (file vs : List ℕ) (T : Table) → checkOf P file ≡ accepted vs → look T ≡ edge (filterIn P file) →
+    (a y t : ℕ) → look T a y ≡ some t → (a < statesIn P file) × (y < labelsIn P file) × (t < statesIn P file)
+unfolding filterIn
+look-within P ok file vs T h is a y t e =
+    let F = filterIn P file in
+    let few : states F ≤ 256 = rw (length-filter P file) (states-high P ok file) in
+    let v = fits F few (checked-in-order P ok file vs h) .within a y t (sym (ap (λ (f : ℕ → ℕ → Option ℕ). f a y) is) ∙ e) in
+    (omega (arith, v .0, length-filter P file), v .1, omega (arith, v .2, length-filter P file))
+
+-- ---- colours
+
+-- zeros behind a list are what reading past its end gives
+padded : (xs : List ℕ) (n k : ℕ) → at (xs ++ drop n (replicate k 0)) ≡ at xs
+padded xs n k = fun-ext λ s. go s (decLt s (length xs))
+  where
+    zeros : (k n s : ℕ) → _≡_ {A = ℕ} (getD (drop n (replicate k 0)) s 0) 0
+    zeros k n s = getD-drop n (replicate k 0) s 0 ∙ zero-at k (n + s)
+      where
+        zero-at : (k j : ℕ) → _≡_ {A = ℕ} (getD (replicate k 0) j 0) 0
+        zero-at zero j = refl
+        zero-at (suc k) zero = refl
+        zero-at (suc k) (suc j) = zero-at k j
+
+    go : (s : ℕ) → Dec (s < length xs) → getD (xs ++ drop n (replicate k 0)) s 0 ≡ getD xs s 0
+    go s (yes l) = List·getD-append xs (drop n (replicate k 0)) 0 s l
+    go s (no l) =
+        let e : length xs + (s - length xs) ≡ s = omega arith in
+        ap (λ (j : ℕ). getD (xs ++ drop n (replicate k 0)) j 0) (sym e) ∙ getD-append-add xs (drop n (replicate k 0)) (s - length xs) 0 ∙ zeros k n (s - length xs)
+        ∙ sym (List·getD-eq-default xs 0 {n = s} (omega arith))
+
+-- colours that are read into zeros
+pub colours-read : (P : Profile) (file zeros hues : List ℕ) (from n k : ℕ) → from ≡ headerBits P → n ≡ statesIn P file → zeros ≡ replicate k 0 →
+    hues ≡ fields file from (replicate n (P .colour)) ++ drop n zeros → at hues ≡ colour (filterIn P file)
+unfolding colour filterIn coloursIn
+colours-read P file zeros hues from n k e f g h = rw (h, e, f, g) (padded (coloursIn P file) (statesIn P file) k)

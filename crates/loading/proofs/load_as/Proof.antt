@@ -1,0 +1,150 @@
+-- `loading::load_as` meets its contract: a refusal before the edges is the answer, and otherwise the first fault of the edges
+-- decides. The invariant: no edge before the cursor has a fault, and the table has these edges. Assumes nothing.
+use mathlib.Core.Path.{_≡_, refl, ap, sym, _∙_}
+use Prim.Native.Nat.{ℕ, _-_, _≤_, _<_}
+use native.Mathlib.Omega.{arith}
+use borrow.Author.Needs.{needs}
+use denote.Ref.{now}
+use Rattle.layout.specs.Layout.{edgesBegin}
+use Rattle.layout.proofs.Bounds.{states-high, count-high, begin-high}
+use Rattle.edges.proofs.Walks.{walk-near, walk-faulty, walk-done}
+use Rattle.files.specs.Tests.{HeadIs, head-is, head-refused, check-faulty}
+use Rattle.checking.specs.Promise.{checkedOutcome}
+use Rattle.table.specs.Table.{table, Rows}
+use Rattle.loading.proofs.Laws.{Filling, filling-begun, filling-room, filling-next, filling-done, loaded-refused, loaded-accepted}
+use Rattle.loading.proofs.load_as.Statement.{statement}
+use Rattle.loading.proofs.load_as.Tie as tie
+
+abbrev Inv-loop : tie.InvT-loop
+Inv-loop p targets₀ labels₀ file r n m e cursor₀ targets labels cursor =
+    Filling p file (edgesBegin p n) e n m (table targets₀ labels₀) (table targets labels) cursor
+
+abbrev μ-loop : tie.MeasureT-loop
+μ-loop p targets₀ labels₀ file r n m e cursor₀ targets labels cursor = e - cursor .index
+
+-- ---- the places of the code, back to the start
+
+abbrev started : tie.After-known-told Inv-loop μ-loop → tie.Start Inv-loop μ-loop
+started c = c .before .before .before .before .before .before
+
+abbrev told : tie.At-loop Inv-loop μ-loop → tie.After-known-told Inv-loop μ-loop
+told c = c .before .before .before
+
+-- ---- what is known where the edges begin
+
+is-headed : (c : tie.After-known-told Inv-loop μ-loop) → HeadIs (started c .args .p) (now (started c .args .file)) (c .before .answer .given .0 .0)
+is-headed c = head-is _ _ _ (sym (started c .pre .0) ∙ ap checkedOutcome (c .before .answer .given .1))
+
+few-states : (c : tie.After-known-told Inv-loop μ-loop) → c .before .answer .given .0 .0 .states ≤ 256
+few-states c = omega (arith, is-headed c .states-are, states-high _ (started c .pre .1 .usable) (now (started c .args .file)))
+
+-- ---- the needs
+
+returns : tie.Need-returns Inv-loop μ-loop
+returns c =
+    let start = c .before .before .before .before .before in
+    let why = c .enum-told .given .0 .0 in
+    let is = ap checkedOutcome (c .enum-told .given .1) in
+    loaded-refused _ _ _ why _ _ is (head-refused (start .args .p) (now (start .args .file)) why (sym (start .pre .0) ∙ is))
+    (record { targets-same = refl; labels-same = refl })
+
+edges-begin-requires : tie.Need-edges-begin-requires Inv-loop μ-loop
+edges-begin-requires c κs = (started c .pre .1 .usable, few-states c)
+
+loop-holds : tie.Need-loop-holds Inv-loop μ-loop
+loop-holds c = rw (c .begin .ensures, c .before .edges-begin .ensures .0) (filling-begun _ _ _ _ _ _ _ (started (c .before .before) .pre .1 .empty))
+
+step-requires : tie.Need-step-requires Inv-loop μ-loop
+step-requires c κs =
+    let loop = c .before .before .loop in
+    let begun = told (c .before .before) in
+    let start = started begun in
+    let ok = start .pre .1 .usable in
+    let near = walk-near _ _ _ _ _ _ _ (loop .inv .walked) ok (begin-high _ ok _ (few-states begun)) (omega (arith, is-headed begun .count-is, count-high _ ok (now (start .args .file)))) in
+    (ok, near .0, near .1, loop .inv .walked .small)
+
+cast-put : tie.Need-cast-put Inv-loop μ-loop
+cast-put c =
+    let onto = c .before .before .before .before .before in
+    let next = rw (onto .step2 .given .1) at (onto .before .before .step .ensures) in
+    let small = next .0 .small in
+    omega arith
+
+put-requires : tie.Need-put-requires Inv-loop μ-loop
+put-requires c κs =
+    let onto = c .before .before .before .before .before in
+    let stepped = onto .before .before in
+    let next = rw (onto .step2 .given .1) at (stepped .step .ensures) in
+    let loop = stepped .before .before .before in
+    let start = started (told loop) in
+    let rows = start .pre .1 .rows in
+    filling-room _ _ _ _ _ _ _ _ _ (loop .loop .inv) _ (next .0) (next .1) (start .pre .1 .labels≤6) (rw (← is-headed (told loop) .states-are) at rows)
+
+loop-less : tie.Need-loop-less Inv-loop μ-loop
+loop-less c =
+    let onto = c .before .before .before .before .before .before .before .before .before .before in
+    let stepped = onto .before .before in
+    let next = rw (onto .step2 .given .1) at (stepped .step .ensures) in
+    omega (arith, next .0 .index, stepped .before .if1 .taken)
+
+loop-again : tie.Need-loop-again Inv-loop μ-loop
+loop-again c =
+    let put = c .before .before .before .before in
+    let onto = put .before .before .before .before .before .before in
+    let stepped = onto .before .before in
+    let next = rw (onto .step2 .given .1) at (stepped .step .ensures) in
+    filling-next _ _ _ _ _ _ _ _ _ (stepped .before .before .before .loop .inv) _ (next .0) (next .1) (stepped .before .if1 .taken) _ (put .put .ensures)
+
+same-length : tie.Need-same-length Inv-loop μ-loop
+same-length c = c .before .before .before .before .before .before .loop .inv .rows .targets-same
+
+same-length-2 : tie.Need-same-length-2 Inv-loop μ-loop
+same-length-2 c = c .before .before .before .before .before .before .loop .inv .rows .labels-same
+
+returns-2 : tie.Need-returns-2 Inv-loop μ-loop
+returns-2 c =
+    let stepped = c .before .before .before in
+    let loop = stepped .before .before .before in
+    let why = c .before .step3 .given .0 .0 in
+    loaded-refused _ _ _ why _ _ refl
+    (check-faulty _ _ _ (is-headed (told loop)) _ refl why
+    (walk-faulty _ _ _ _ _ _ _ (loop .loop .inv .walked) (stepped .before .if1 .taken) _ (rw (c .before .step3 .given .1) at (stepped .step .ensures))))
+    (loop .loop .inv .rows)
+
+same-length-3 : tie.Need-same-length-3 Inv-loop μ-loop
+same-length-3 c = c .before .before .loop .inv .rows .targets-same
+
+same-length-4 : tie.Need-same-length-4 Inv-loop μ-loop
+same-length-4 c = c .before .before .loop .inv .rows .labels-same
+
+returns-3 : tie.Need-returns-3 Inv-loop μ-loop
+returns-3 c =
+    let loop = c .before .before in
+    let clear = walk-done _ _ _ _ _ _ _ (loop .loop .inv .walked) (c .if1 .left) in
+    loaded-accepted _ _ _ _ _ (is-headed (told loop)) clear (filling-done _ _ _ _ _ _ _ _ _ (loop .loop .inv) (c .if1 .left) clear) (loop .loop .inv .rows)
+
+pub load-as-spec : {M : Type 1} → statement M
+load-as-spec =
+    tie.close
+    (tie.spec
+    Inv-loop
+    μ-loop
+    (λ c. search needs)
+    (λ c. search needs)
+    returns
+    edges-begin-requires
+    (λ c κs. search needs)
+    loop-holds
+    step-requires
+    (λ c. search needs)
+    cast-put
+    put-requires
+    loop-less
+    loop-again
+    (λ c. search needs)
+    same-length
+    same-length-2
+    returns-2
+    same-length-3
+    same-length-4
+    returns-3)
