@@ -43,7 +43,7 @@ use Rattle.checking.specs.declared.Checked.the-variants as checked
 use Rattle.checking.specs.Promise.{checkedOutcome}
 use Rattle.table.specs.Table.{Table, table, look, Rows, SameRows, withEdge, Put}
 use Rattle.table.proofs.Laws.{look-empty}
-use Rattle.loading.specs.Loading.{Loadable, Loaded}
+use Rattle.loading.specs.Loading.{Loadable, Loaded, Tabled}
 
 -- ---- one edge more
 
@@ -155,6 +155,19 @@ serves P file targets labels k ok narrow long fresh h = record {
   labels≤6 = narrow;
   empty = fresh .0 ∙ ap (λ (j : ℕ). replicate j 0) (sym (fresh .1));
   rows = record { targets-long = omega (arith, long); labels-long = omega (arith, fresh .1) };
+}
+
+-- what is loaded can be looked up
+pub tabled : (P : Profile) (file : List ℕ) (r : Checked) (T T′ : Table) → Loadable P file T → Loaded P file r T T′ → Tabled P file r T′
+tabled P file r T T′ before after = record {
+  usable = before .usable;
+  labels≤6 = before .labels≤6;
+  answer = after .answer;
+  edges = after .edges;
+  rows = record {
+    targets-long = omega (arith, before .rows .targets-long, after .rows .targets-same);
+    labels-long = omega (arith, before .rows .labels-long, after .rows .labels-same);
+  };
 }
 
 -- what the table of an accepted file gives is an edge between states of the file, at a label of the file

@@ -28,6 +28,14 @@ pub record Loaded (P : Profile) (file : List ℕ) (r : Checked) (T T′ : Table)
   pub edges : (numbers : List ℕ) → checkOf P file ≡ accepted numbers → look T′ ≡ edge (filterIn P file)
   pub rows : SameRows T T′
 
+-- The answer of a file's check, and a table that has every edge of an accepted file, with a row for each of its states.
+pub record Tabled (P : Profile) (file : List ℕ) (r : Checked) (T : Table) : Type 0 where
+  pub usable : Usable P
+  pub labels≤6 : P .labels ≤ 6
+  pub answer : CheckPromise P file r
+  pub edges : (numbers : List ℕ) → checkOf P file ≡ accepted numbers → look T ≡ edge (filterIn P file)
+  pub rows : Rows T (statesIn P file)
+
 -- 256 bytes that begin with the colours of the file.
 pub record Coloured (P : Profile) (file hues : List ℕ) : Type 0 where
   pub colours : at hues ≡ colour (filterIn P file)
