@@ -12,8 +12,8 @@ ghost use Rattle.checking.specs.Promise.{checkedOutcome};
 ghost use Rattle.table.specs.Table.{table};
 ghost use Rattle.loading.specs.Loading.{Loadable, Loaded, Coloured};
 
-// Checks a file and puts its edges into a table without edges: of an accepted file the table has every edge. The table is lent, so
-// that a call has it on its stack once.
+// Checks a file and puts its edges into a table without edges: of an accepted file the table has every edge. The table is lent,
+// so that a call has it on its stack once.
 pub fn load(targets: &mut [u8], labels: &mut [u64], file: &[u8]) -> Checked
     requires { ⌜ Loadable large (now file) (table (now targets) (now labels)) ⌝ }
     ensures { λ r. ⌜ Loaded large (now (file .entry)) r (table (now (targets .entry)) (now (labels .entry)))

@@ -8,12 +8,12 @@ use Prim.Native.Nat.{ℕ, _+_}
 use lib.Dec.{ltb}
 use lib.ListN.{length}
 use Rattle.meaning.specs.Trace.{shown, stops}
-use Rattle.file.specs.declared.Profile.{Profile}
-use Rattle.file.specs.declared.Kind.the-variants.{Room, Observation}
-use Rattle.file.specs.declared.Refusal.{Refusal}
-use Rattle.file.specs.Contents.{labelsIn, filterIn}
-use Rattle.file.specs.Answers.{accepted, refusalOutcome}
-use Rattle.file.specs.Refusals.{checkOf, laid, roomAfter}
+use Rattle.layout.specs.declared.Profile.{Profile}
+use Rattle.refusals.specs.declared.Kind.the-variants.{Room, Observation}
+use Rattle.refusals.specs.declared.Refusal.{Refusal}
+use Rattle.layout.specs.Contents.{labelsIn, filterIn}
+use Rattle.refusals.specs.Refusals.{accepted, refusalOutcome, laid, roomAfter}
+use Rattle.files.specs.Files.{checkOf}
 use Rattle.tracing.specs.declared.Traced.{Traced}
 use Rattle.tracing.specs.declared.Traced.the-variants as traced
 use Rattle.tracing.specs.Answers.{rideOutcome, tracedOutcome}
@@ -25,9 +25,9 @@ after-ride none bytes room = refl
 after-ride (some i) bytes room = refl
 
 module _ (P : Profile) (s ys room : List ℕ) where
-  pub trace-refused : (why : Refusal) (r : Traced) → checkOf P s ≡ refusalOutcome why → tracedOutcome r ≡ refusalOutcome why → TracePromise P s ys room r room
+  pub trace-refused : (why : Refusal) → checkOf P s ≡ refusalOutcome why → TracePromise P s ys room (traced.Refused why) room
   unfolding traceOf
-  trace-refused why r h e = record { answer = e ∙ rw h; colours-after = rw h }
+  trace-refused why h = record { answer = rw h; colours-after = rw h }
 
   module _ (vs : List ℕ) (h : checkOf P s ≡ accepted vs) where
     pub trace-short : (ltb 65535 (length ys) || ltb (length room) (length ys + 1)) ≡ true → TracePromise P s ys room (traced.Refused (record { kind = Room; place = 0 })) room

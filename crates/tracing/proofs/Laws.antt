@@ -4,21 +4,25 @@ use mathlib.Core.Path.{_≡_, refl, sym, ap, ap₂, _∙_}
 use mathlib.Core.Bool.{Bool, true, false}
 use mathlib.Core.List.{List, [], _∷_, _++_, append-assoc}
 use mathlib.Core.Option.{Option, none, some}
-use Prim.Native.Nat.{ℕ, zero, suc, _+_, _*_, _≤_, _<_}
+use Prim.Native.Nat.{ℕ, zero, suc, _+_, _≤_, _<_}
 use native.Mathlib.Numerals.{add-one}
 use native.Mathlib.Omega.{arith}
 use lib.Dec.{leb, ltb}
-use lib.ListN.{length, getD, set, take, drop, length-append, drop-of-length-le}
+use lib.ListN.{length, getD, set, take, drop, length-append, length-set, drop-of-length-le}
 use lib.Seq.{drop-cons, take-at}
 use borrow.Author.Tests.{le-leb, lt-leb, leb-false, lt-ltb, le-ltb, ltb-true, ltb-false}
-use Rattle.bits.proofs.Runs.{store-more}
+use Rattle.bits.proofs.Parts.{store-more}
 use Rattle.meaning.specs.Pick.{pick}
+use Rattle.meaning.specs.Search.{at}
 use Rattle.meaning.specs.Trace.{ridden, later, halted}
 use Rattle.meaning.specs.TraceLaws.{ridden-on, ridden-stop, halted-on, halted-stop}
 use Rattle.meaning.specs.Cases.{clash, test}
-use Rattle.file.specs.Refusals.{laid}
-use Rattle.table.specs.Table.{look}
-use Rattle.tracing.specs.Answers.{onto, stop, courseOf}
+use Rattle.refusals.specs.Refusals.{laid}
+use Rattle.table.specs.Table.{Table, look}
+use Rattle.tracing.specs.declared.Ride.{Ride}
+use Rattle.tracing.specs.declared.Traced.the-variants as traced
+use Rattle.tracing.specs.Answers.{rideOutcome, onto, stop, courseOf}
+use Rattle.tracing.specs.Riding.{Stand, Ridable, Ridden}
 use Rattle.tracing.specs.Tracing.{firstOutside, larger, largest}
 
 -- ---- an index further on
@@ -97,23 +101,13 @@ largest-inside m (y ∷ ys) h = test (ltb y (largest ys))
 
 -- ---- a step
 
-pub course-onto : (o : Option ℕ) (taken s k : ℕ) → onto s k ≡ courseOf o taken → (o ≡ some s) × (k ≡ taken + 1)
+course-onto : (o : Option ℕ) (taken s k : ℕ) → onto s k ≡ courseOf o taken → (o ≡ some s) × (k ≡ taken + 1)
 course-onto none taken s k h = clash cc
 course-onto (some t) taken s k h = (ap some (cc h), cc h)
 
-pub course-stop : (o : Option ℕ) (taken k : ℕ) → stop k ≡ courseOf o taken → (o ≡ none) × (k ≡ taken)
+course-stop : (o : Option ℕ) (taken k : ℕ) → stop k ≡ courseOf o taken → (o ≡ none) × (k ≡ taken)
 course-stop none taken k h = (refl, cc h)
 course-stop (some t) taken k h = clash cc
-
--- what is looked up is a state of the table
-pub look-lt : (T : List ℕ) (s y t : ℕ) → look T s y ≡ some t → t < 256
-unfolding look
-look-lt T s y t h = go (getD T (s * 64 + y) 65535) (ltb y 64) (ltb (getD T (s * 64 + y) 65535) 256) refl h
-  where
-    go : (v : ℕ) (a b : Bool) → ltb v 256 ≡ b → pick a (pick b (some v) none) none ≡ some t → t < 256
-    go v true true e k = let z : v ≡ t = cc in omega (arith, ltb-true v 256 e)
-    go v true false e k = clash cc
-    go v false b e k = clash cc
 
 -- ---- the ride
 
@@ -129,7 +123,7 @@ module _ (next : ℕ → ℕ → Option ℕ) (hue : ℕ → ℕ) where
       pub holds : now ≡ take i all ++ drop i room
       pub halts : halted next start ys ≡ from i (halted next s (drop i ys))
 
-    pub riding-begins : Riding room 0 start
+    riding-begins : Riding room 0 start
     riding-begins = record { shows = refl; counts = refl; holds = refl; halts = from-zero (halted next start ys) }
 
     module _ (now : List ℕ) (i s : ℕ) (r : Riding now i s) where
@@ -140,7 +134,7 @@ module _ (next : ℕ → ℕ → Option ℕ) (hue : ℕ → ℕ) where
       put : i < length room → set now i (hue s) ≡ (take i all ++ (hue s ∷ [])) ++ drop (i + 1) room
       put l = ap (λ (w : List ℕ). set w i (hue s)) (r .holds) ∙ store-more (take i all) room i (hue s) (r .counts) l
 
-      pub riding-on : (t : ℕ) → i < length ys → i < length room → next s (getD ys i 0) ≡ some t → Riding (set now i (hue s)) (i + 1) t
+      riding-on : (t : ℕ) → i < length ys → i < length room → next s (getD ys i 0) ≡ some t → Riding (set now i (hue s)) (i + 1) t
       riding-on t l m h =
           let rest = ridden next hue t (drop (i + 1) ys) in
           let cons : drop i ys ≡ getD ys i 0 ∷ drop (i + 1) ys = drop-cons ys i 0 l ∙ rw (add-one i) in
@@ -161,7 +155,7 @@ module _ (next : ℕ → ℕ → Option ℕ) (hue : ℕ → ℕ) where
       ended l h = put l ∙ ap₂ (λ (w : List ℕ) (k : ℕ). w ++ drop k room) (sym h) (sym (ap length h ∙ longer))
 
       -- an observation without an edge
-      pub riding-stops : i < length ys → i < length room → next s (getD ys i 0) ≡ none → (set now i (hue s) ≡ laid all room) × (halted next start ys ≡ some i)
+      riding-stops : i < length ys → i < length room → next s (getD ys i 0) ≡ none → (set now i (hue s) ≡ laid all room) × (halted next start ys ≡ some i)
       riding-stops l m h =
           let cons : drop i ys ≡ getD ys i 0 ∷ drop (i + 1) ys = drop-cons ys i 0 l ∙ rw (add-one i) in (
             ended m (r .shows ∙ ap (λ (w : List ℕ). take i all ++ w) (ap (ridden next hue s) cons ∙ ridden-stop next hue s (getD ys i 0) (drop (i + 1) ys) h)),
@@ -169,10 +163,58 @@ module _ (next : ℕ → ℕ → Option ℕ) (hue : ℕ → ℕ) where
           )
 
       -- no observation is left
-      pub riding-ends : length ys ≤ i → i < length room → (set now i (hue s) ≡ laid all room) × (halted next start ys ≡ none)
+      riding-ends : length ys ≤ i → i < length room → (set now i (hue s) ≡ laid all room) × (halted next start ys ≡ none)
       unfolding ridden halted
       riding-ends l m =
           let nil : drop i ys ≡ [] = drop-of-length-le ys {i = i} l in (
             ended m (r .shows ∙ ap (λ (o : List ℕ). take i all ++ ridden next hue s o) nil),
             r .halts ∙ ap (λ (o : List ℕ). from i (halted next s o)) nil,
           )
+
+-- ---- the ride over a table
+
+module _ (T : Table) (hues : List ℕ) (start : ℕ) (ys room₀ : List ℕ) where
+  -- A ride in progress, in a state that it can be in.
+  pub record Underway (room : List ℕ) (ride : Ride) (i : ℕ) : Type 0 where
+    pub within : i ≤ length ys
+    pub taken : ride .taken ≡ i
+    pub stand : Stand T hues (ride .state)
+    pub same : length room ≡ length room₀
+    pub riding : Riding (look T) (at hues) start ys room₀ room i (ride .state)
+
+  pub underway-begins : Stand T hues start → Underway room₀ (record { state = start; taken = 0 }) 0
+  underway-begins h = record {
+    within = omega arith;
+    taken = refl;
+    stand = h;
+    same = refl;
+    riding = riding-begins (look T) (at hues) start ys room₀;
+  }
+
+  module _ (asked : Ridable T hues start ys room₀) (room : List ℕ) (ride : Ride) (i : ℕ) (u : Underway room ride i) where
+    pub underway-ends : length ys ≤ i → Ridden T hues start ys room₀ traced.All (set room i (at hues (ride .state)))
+    underway-ends l =
+        let end = riding-ends (look T) (at hues) start ys room₀ room i (ride .state) (u .riding) l (omega (arith, asked .roomy, u .within)) in
+        record { answer = ap rideOutcome (sym (end .1)); colours = end .0 }
+
+    module _ (more : i < length ys) (label : ℕ) (is : label ≡ at ys i) where
+      pub underway-on : (next : Ride) → onto (next .state) (next .taken) ≡ courseOf (look T (ride .state) label) (ride .taken) →
+          Underway (set room i (at hues (ride .state))) next (i + 1)
+      underway-on next course =
+          let to = course-onto (look T (ride .state) label) (ride .taken) (next .state) (next .taken) course in
+          record {
+            within = omega arith;
+            taken = omega (arith, to .1, u .taken);
+            stand = asked .leads (ride .state) label (next .state) (to .0);
+            same = length-set room i (at hues (ride .state)) ∙ u .same;
+            riding =
+                riding-on (look T) (at hues) start ys room₀ room i (ride .state) (u .riding) (next .state) more (omega (arith, asked .roomy))
+                (ap (look T (ride .state)) (sym is) ∙ to .0);
+          }
+
+      pub underway-stops : (k : ℕ) → stop k ≡ courseOf (look T (ride .state) label) (ride .taken) →
+          Ridden T hues start ys room₀ (traced.Stopped i) (set room i (at hues (ride .state)))
+      underway-stops k course =
+          let no = course-stop (look T (ride .state) label) (ride .taken) k course in
+          let end = riding-stops (look T) (at hues) start ys room₀ room i (ride .state) (u .riding) more (omega (arith, asked .roomy)) (ap (look T (ride .state)) (sym is) ∙ no .0) in
+          record { answer = ap rideOutcome (sym (end .1)); colours = end .0 }

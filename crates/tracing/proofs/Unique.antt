@@ -8,7 +8,7 @@ use denote.Ref.{now}
 use denote.Triple.Clauses.{AtExit}
 use mathlib.Core.Path.{_≡_, refl, ap, sym, _∙_}
 use Rattle.meaning.specs.Cases.{clash}
-use Rattle.file.proofs.Unique.{refusal-one}
+use Rattle.refusals.proofs.Laws.{refusal-one}
 use Rattle.tracing.specs.declared.Traced.{Traced}
 use Rattle.tracing.specs.declared.Traced.the-variants as traced
 use Rattle.tracing.specs.Answers.{tracedOutcome}

@@ -3,7 +3,7 @@
 use Prim.Native.Nat.{ℕ, _+_}
 use mathlib.Core.List.{[], _∷_}
 use mathlib.Core.Option.{Option, none, some}
-use Rattle.file.specs.Answers.{Outcome, accepted, refusalOutcome}
+use Rattle.refusals.specs.Refusals.{Outcome, accepted, refusalOutcome}
 use Rattle.tracing.specs.declared.Traced.{Traced}
 use Rattle.tracing.specs.declared.Traced.the-variants as traced
 use Rattle.tracing.specs.declared.Step.{Step}

@@ -1,3 +1,4 @@
 pub mod Answers
 pub mod Tracing
 pub mod Promise
+pub mod Riding

@@ -5,9 +5,9 @@ use mathlib.Core.Path.{_≡_}
 use mathlib.Core.List.{List}
 use lib.ListN.{length}
 use Rattle.meaning.specs.Trace.{shown}
-use Rattle.file.specs.declared.Profile.{Profile}
-use Rattle.file.specs.Contents.{filterIn}
-use Rattle.file.specs.Refusals.{roomAfter}
+use Rattle.layout.specs.declared.Profile.{Profile}
+use Rattle.layout.specs.Contents.{filterIn}
+use Rattle.refusals.specs.Refusals.{roomAfter}
 use Rattle.tracing.specs.declared.Traced.{Traced}
 use Rattle.tracing.specs.Answers.{tracedOutcome}
 use Rattle.tracing.specs.Tracing.{traceOf}
@@ -15,4 +15,5 @@ use Rattle.tracing.specs.Tracing.{traceOf}
 -- Accepted: the room begins with the colours that the filter shows, the rest is as found. Refused: the room is as found.
 pub record TracePromise (P : Profile) (file observations colours : List ℕ) (r : Traced) (colours′ : List ℕ) : Type 0 where
   pub answer : tracedOutcome r ≡ traceOf P file observations (length colours)
-  pub colours-after : colours′ ≡ roomAfter (traceOf P file observations (length colours)) (shown (filterIn P file) observations) colours
+  pub colours-after : colours′
+      ≡ roomAfter (traceOf P file observations (length colours)) (shown (filterIn P file) observations) colours

@@ -8,10 +8,10 @@ use lib.Dec.{leb, ltb}
 use lib.ListN.{length}
 use Rattle.meaning.specs.Pick.{pick}
 use Rattle.meaning.specs.Trace.{later, stops}
-use Rattle.file.specs.declared.Profile.{Profile}
-use Rattle.file.specs.Contents.{labelsIn, filterIn}
-use Rattle.file.specs.Answers.{Outcome, refused}
-use Rattle.file.specs.Refusals.{Test, test, firstOf, onward, checkOf}
+use Rattle.layout.specs.declared.Profile.{Profile}
+use Rattle.layout.specs.Contents.{labelsIn, filterIn}
+use Rattle.refusals.specs.Refusals.{Outcome, refused, Test, test, firstOf, onward}
+use Rattle.files.specs.Files.{checkOf}
 use Rattle.tracing.specs.Answers.{rideOutcome}
 
 -- 12: more than 65,535 observations, or colour room below observations + 1.

@@ -1,22 +1,21 @@
 // Tracing observations through a filter file.
-use file::Checked;
-use file::Kind;
-use file::Refusal;
+use checking::Checked;
+use layout::Profile;
+use refusals::Kind;
+use refusals::Refusal;
 ghost use mathlib.Core.Path.{_≡_};
 ghost use mathlib.Core.Option.{none, some};
-ghost use Prim.Native.Nat.{ℕ, _+_, _*_, _<_, _≤_};
+ghost use Prim.Native.Nat.{_+_, _<_};
 ghost use lib.Dec.{ltb};
-ghost use lib.ListN.{length, getD, replicate};
+ghost use lib.ListN.{length};
 ghost use Rattle.meaning.specs.Pick.{pick};
-ghost use Rattle.meaning.specs.Trace.{ridden, halted};
-ghost use Rattle.file.specs.Layout.{large};
-ghost use Rattle.file.specs.Contents.{statesIn};
-ghost use Rattle.file.specs.Answers.{checkedOutcome};
-ghost use Rattle.file.specs.Refusals.{onward, laid};
-ghost use Rattle.table.specs.Table.{look};
-ghost use Rattle.tracing.specs.Answers.{rideOutcome, tracedOutcome, stepCourse, courseOf};
+ghost use Rattle.layout.specs.Layout.{large};
+ghost use Rattle.table.specs.Table.{table, look, Rows};
+ghost use Rattle.loading.specs.Loading.{Loadable, Tabled};
+ghost use Rattle.tracing.specs.Answers.{stepCourse, courseOf};
 ghost use Rattle.tracing.specs.Tracing.{firstOutside, largest};
 ghost use Rattle.tracing.specs.Promise.{TracePromise};
+ghost use Rattle.tracing.specs.Riding.{Ridable, Ridden};
 
 // All observations traced; or stopped at the first without an edge.
 pub enum Traced {
@@ -27,30 +26,66 @@ pub enum Traced {
 
 // Traces the observations from the start, and writes the colours that are shown.
 pub fn trace(file: &[u8], observations: &[u8], colours: &mut [u8]) -> Traced
-    ensures { λ r. ⌜ TracePromise large (now (file .entry)) (now (observations .entry)) (now (colours .entry)) r (now (colours .exit)) ⌝ }
+    ensures { λ r. ⌜ TracePromise large (now (file .entry)) (now (observations .entry)) (now (colours .entry)) r
+        (now (colours .exit)) ⌝ }
 {
     // The shortest table with a row for each state.
-    let n = table::states(file);
+    let n = layout::states(layout::large(), file);
     if n <= 16 {
-        let mut table = table::small();
-        return trace_with(&mut table, file, observations, colours);
+        let mut targets = table::small_targets();
+        let mut labels = table::small_labels();
+        return trace_in(&mut targets, &mut labels, file, observations, colours);
     }
     if n <= 64 {
-        let mut table = table::middle();
-        return trace_with(&mut table, file, observations, colours);
+        let mut targets = table::middle_targets();
+        let mut labels = table::middle_labels();
+        return trace_in(&mut targets, &mut labels, file, observations, colours);
     }
-    let mut table = table::whole();
-    trace_with(&mut table, file, observations, colours)
+    let mut targets = table::all_targets();
+    let mut labels = table::all_labels();
+    trace_in(&mut targets, &mut labels, file, observations, colours)
 }
 
-// The same with an empty table that is long enough for the file's states.
-fn trace_with(table: &mut [u16], file: &[u8], observations: &[u8], colours: &mut [u8]) -> Traced
-    requires { ⌜ (now table ≡ replicate (length (now table)) 65535) × (statesIn large (now file) * 64 ≤ length (now table)) ⌝ }
-    ensures { λ r. ⌜ TracePromise large (now (file .entry)) (now (observations .entry)) (now (colours .entry)) r (now (colours .exit)) ⌝ }
+// The same with a fresh table that has a row for each state.
+fn trace_in(
+    targets: &mut [u8],
+    labels: &mut [u64],
+    file: &[u8],
+    observations: &[u8],
+    colours: &mut [u8],
+) -> Traced
+    requires { ⌜ Loadable large (now file) (table (now targets) (now labels)) ⌝ }
+    ensures { λ r. ⌜ TracePromise large (now (file .entry)) (now (observations .entry)) (now (colours .entry)) r
+        (now (colours .exit)) ⌝ }
 {
-    let answer = table::read(table, file);
+    let answer = loading::load(targets, labels, file);
+    trace_with(
+        layout::large(),
+        answer,
+        targets,
+        labels,
+        file,
+        observations,
+        colours,
+    )
+}
+
+// The same for any widths, with the file's answer and its table.
+fn trace_with(
+    p: Profile,
+    answer: Checked,
+    targets: &[u8],
+    labels: &[u64],
+    file: &[u8],
+    observations: &[u8],
+    colours: &mut [u8],
+) -> Traced
+    requires { ⌜ Tabled p (now file) answer (table (now targets) (now labels)) ⌝ }
+    ensures { λ r. ⌜ TracePromise p (now (file .entry)) (now (observations .entry)) (now (colours .entry)) r
+        (now (colours .exit)) ⌝ }
+{
     let Checked::Accepted(reading) = answer else {
-        return passed_on(answer);
+        return Traced::Refused(checking::refusal(answer));
     };
     let count = observations.len();
     if 65535 < count {
@@ -63,19 +98,9 @@ fn trace_with(table: &mut [u16], file: &[u8], observations: &[u8], colours: &mut
     if outside < count {
         return refused(Kind::Observation, outside);
     }
-    let hues = table::colours_of(file, reading);
+    let hues = loading::colours_of(p, file, reading.states);
     let start = reading.start;
-    ride_through(table, &hues, start, observations, colours)
-}
-
-// A check's refusal as trace's own.
-fn passed_on(answer: Checked) -> Traced
-    ensures { λ r. ⌜ tracedOutcome r ≡ onward (checkedOutcome answer) (rideOutcome none) ⌝ }
-{
-    match answer {
-        Checked::Accepted(_) => Traced::All,
-        Checked::Refused(why) => Traced::Refused(why),
-    }
+    ride_through(targets, labels, &hues, start, observations, colours)
 }
 
 fn refused(kind: Kind, place: usize) -> Traced
@@ -84,18 +109,13 @@ fn refused(kind: Kind, place: usize) -> Traced
     Traced::Refused(Refusal { kind, place })
 }
 
-fn wide(x: u8) -> usize
-    ensures { λ r. ⌜ (r ≡ x) × (r < 256) ⌝ }
-{
-    x as usize
-}
-
 // The index of the first observation that is m or more, or how many there are.
 fn first_outside(m: usize, observations: &[u8]) -> usize
-    ensures { λ r. ⌜ firstOutside m (now (observations .entry)) ≡ pick (ltb r (length (now (observations .entry)))) (some r) none ⌝ }
+    ensures { λ r. ⌜ firstOutside m (now (observations .entry)) ≡
+        pick (ltb r (length (now (observations .entry)))) (some r) none ⌝ }
 {
     // The largest is found many at a time, a first one only one by one.
-    if wide(largest(observations)) < m {
+    if arrays::wide_byte(largest(observations)) < m {
         return observations.len();
     }
     sought_outside(m, observations)
@@ -103,11 +123,12 @@ fn first_outside(m: usize, observations: &[u8]) -> usize
 
 // The same, one by one.
 fn sought_outside(m: usize, observations: &[u8]) -> usize
-    ensures { λ r. ⌜ firstOutside m (now (observations .entry)) ≡ pick (ltb r (length (now (observations .entry)))) (some r) none ⌝ }
+    ensures { λ r. ⌜ firstOutside m (now (observations .entry)) ≡
+        pick (ltb r (length (now (observations .entry)))) (some r) none ⌝ }
 {
     let mut i = 0;
     while i < observations.len() {
-        if m <= wide(observations[i]) {
+        if m <= arrays::wide_byte(observations[i]) {
             return i;
         }
         i += 1;
@@ -144,16 +165,16 @@ enum Step {
 
 impl Ride {
     // One observation more.
-    fn step(self, table: &[u16], label: usize) -> Step
-        requires { ⌜ (self .state < 256) × (label < 64) × (self .taken < 65535) × (self .state * 64 + 64 ≤ length (now table)) ⌝ }
-        ensures { λ r. ⌜ stepCourse r ≡ courseOf (look (now (table .entry)) (self .state) label) (self .taken) ⌝ }
+    fn step(self, targets: &[u8], labels: &[u64], label: usize) -> Step
+        requires { ⌜ (label < 64) × (self .taken < 65535) × Rows (table (now targets) (now labels)) (self .state + 1) ⌝ }
+        ensures { λ r. ⌜ stepCourse r ≡
+            courseOf (look (table (now (targets .entry)) (now (labels .entry))) (self .state) label) (self .taken) ⌝ }
     {
         let state = self.state;
         let taken = self.taken;
-        let to = table::entry(table, state, label);
-        if to < 256 {
+        if sets::holds(labels[state], label) {
             return Step::Next(Ride {
-                state: to,
+                state: table::target(targets, state, label),
                 taken: taken + 1,
             });
         }
@@ -161,17 +182,18 @@ impl Ride {
     }
 }
 
-// Rides from the start through the observations, and writes the colour of each state on the way. The table has a row for each.
+// Rides from the start through the observations, and writes the colour of each state on the way.
 fn ride_through(
-    table: &[u16],
+    targets: &[u8],
+    labels: &[u64],
     hues: &[u8],
     start: usize,
     observations: &[u8],
     room: &mut [u8],
 ) -> Traced
-    requires { ⌜ (start < 256) × (length (now hues) ≡ 256) × (length (now observations) ≤ 65535) × (length (now observations) + 1 ≤ length (now room)) × ((i : ℕ) → getD (now observations) i 0 < 64) × (start * 64 + 64 ≤ length (now table)) × ((s y t : ℕ) → look (now table) s y ≡ some t → t * 64 + 64 ≤ length (now table)) ⌝ }
-    ensures answer { λ r. ⌜ tracedOutcome r ≡ rideOutcome (halted (look (now (table .entry))) start (now (observations .entry))) ⌝ }
-    ensures colours { λ r. ⌜ now (room .exit) ≡ laid (ridden (look (now (table .entry))) (λ s. getD (now (hues .entry)) s 0) start (now (observations .entry))) (now (room .entry)) ⌝ }
+    requires { ⌜ Ridable (table (now targets) (now labels)) (now hues) start (now observations) (now room) ⌝ }
+    ensures { λ r. ⌜ Ridden (table (now (targets .entry)) (now (labels .entry))) (now (hues .entry)) start
+        (now (observations .entry)) (now (room .entry)) r (now (room .exit)) ⌝ }
 {
     let mut ride = Ride {
         state: start,
@@ -181,7 +203,7 @@ fn ride_through(
     while i < observations.len() {
         let state = ride.state;
         room[i] = hues[state];
-        let step = ride.step(table, wide(observations[i]));
+        let step = ride.step(targets, labels, arrays::wide_byte(observations[i]));
         let Step::Next(next) = step else {
             return Traced::Stopped(i);
         };

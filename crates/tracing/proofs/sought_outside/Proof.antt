@@ -20,32 +20,20 @@ abbrev μ-loop : tie.MeasureT-loop
 loop-holds : tie.Need-loop-holds Inv-loop μ-loop
 loop-holds c = (omega arith, outside-start (c .before .args .m) (now (c .before .args .observations)))
 
-shared-slice-read-wide : tie.Need-shared-slice-read-wide Inv-loop μ-loop
-shared-slice-read-wide c = omega arith
-
-wide-requires : tie.Need-wide-requires Inv-loop μ-loop
-wide-requires c κs = search needs
-
 returns : tie.Need-returns Inv-loop μ-loop
 returns c =
     let test = c .before .before .before in
     let loop = test .before .loop in
     let a = test .before .before .before .args in
     rw (lt-ltb _ _ (test .loop-test .taken))
-    (loop .inv .1 ∙ outside-here (a .m) (now (a .observations)) (loop .i) (test .loop-test .taken) (omega (arith, c .before .wide .ensures .0, c .if1 .taken)))
-
-add-i : tie.Need-add-i Inv-loop μ-loop
-add-i c = omega arith
-
-loop-less : tie.Need-loop-less Inv-loop μ-loop
-loop-less c = omega arith
+    (loop .inv .1 ∙ outside-here (a .m) (now (a .observations)) (loop .i) (test .loop-test .taken) (omega (arith, c .before .wide-byte .ensures .0, c .if1 .taken)))
 
 loop-again : tie.Need-loop-again Inv-loop μ-loop
 loop-again c =
     let test = c .before .before .before in
     let loop = test .before .loop in
     let a = test .before .before .before .args in
-    (omega arith, loop .inv .1 ∙ outside-next (a .m) (now (a .observations)) (loop .i) (test .loop-test .taken) (omega (arith, c .before .wide .ensures .0, c .if1 .left)))
+    (omega arith, loop .inv .1 ∙ outside-next (a .m) (now (a .observations)) (loop .i) (test .loop-test .taken) (omega (arith, c .before .wide-byte .ensures .0, c .if1 .left)))
 
 returns-2 : tie.Need-returns-2 Inv-loop μ-loop
 returns-2 c =
@@ -60,10 +48,10 @@ sought-outside-spec =
     Inv-loop
     μ-loop
     loop-holds
-    shared-slice-read-wide
-    wide-requires
+    (λ c. omega arith)
+    (λ c κs. search needs)
     returns
-    add-i
-    loop-less
+    (λ c. omega arith)
+    (λ c. omega arith)
     loop-again
     returns-2)

@@ -1,75 +1,67 @@
--- `tracing::trace` meets its contract: whichever table a file's states take, it is long enough. Assumes nothing.
+-- `tracing::trace` meets its contract: whichever table a file's states take, it has a row for each. Assumes nothing.
+use mathlib.Core.Path.{_≡_}
 use native.Mathlib.Omega.{arith}
 use borrow.Author.Needs.{needs}
-use Rattle.table.proofs.Laws.{serves}
+use denote.Ref.{now}
+use lib.Dec.{lit≤}
+use Rattle.layout.specs.Layout.{large}
+use Rattle.layout.specs.Contents.{statesIn}
+use Rattle.layout.proofs.Bounds.{large-usable}
+use Rattle.loading.proofs.Laws.{serves}
 use Rattle.tracing.proofs.trace.Statement.{statement}
 use Rattle.tracing.proofs.trace.Tie as tie
 
+states-are : (c : tie.After-states) → c .states .result ≡ statesIn large (now (c .before .before .before .before .before .args .file))
+states-are c = rw (c .before .large .ensures) at (c .states .ensures .0)
+
 states-requires : tie.Need-states-requires
-states-requires c κs = search needs
+states-requires c κs = rw (c .large .ensures) large-usable
 
-small-requires : tie.Need-small-requires
-small-requires c κs = search needs
+trace-in-requires : tie.Need-trace-in-requires
+trace-in-requires c κs =
+    let fresh = c .before .before .before in
+    let then = fresh .before .before in
+    serves large _ _ _ 16 large-usable (lit≤ tt) (fresh .before .small-targets .ensures) (fresh .small-labels .ensures)
+    (omega (arith, then .if1 .taken, states-are (then .before)))
 
-slice-aggregate-trace-with : tie.Need-slice-aggregate-trace-with
-slice-aggregate-trace-with c = search needs
+trace-in-requires-2 : tie.Need-trace-in-requires-2
+trace-in-requires-2 c κs =
+    let fresh = c .before .before .before in
+    let then = fresh .before .before in
+    serves large _ _ _ 64 large-usable (lit≤ tt) (fresh .before .middle-targets .ensures) (fresh .middle-labels .ensures)
+    (omega (arith, then .if2 .taken, states-are (then .before .before)))
 
-trace-with-requires : tie.Need-trace-with-requires
-trace-with-requires c κs = serves _ _ 1024 (c .before .before .small .ensures) (omega arith)
-
-same-length : tie.Need-same-length
-same-length c = search needs
-
-returns : tie.Need-returns
-returns c = search needs
-
-middle-requires : tie.Need-middle-requires
-middle-requires c κs = search needs
-
-slice-aggregate-trace-with-2 : tie.Need-slice-aggregate-trace-with-2
-slice-aggregate-trace-with-2 c = search needs
-
-trace-with-requires-2 : tie.Need-trace-with-requires-2
-trace-with-requires-2 c κs = serves _ _ 4096 (c .before .before .middle .ensures) (omega arith)
-
-same-length-2 : tie.Need-same-length-2
-same-length-2 c = search needs
-
-returns-2 : tie.Need-returns-2
-returns-2 c = search needs
-
-whole-requires : tie.Need-whole-requires
-whole-requires c κs = search needs
-
-slice-aggregate-trace-with-3 : tie.Need-slice-aggregate-trace-with-3
-slice-aggregate-trace-with-3 c = search needs
-
-trace-with-requires-3 : tie.Need-trace-with-requires-3
-trace-with-requires-3 c κs = serves _ _ 16384 (c .before .before .whole .ensures) (omega arith)
-
-same-length-3 : tie.Need-same-length-3
-same-length-3 c = search needs
-
-returns-3 : tie.Need-returns-3
-returns-3 c = search needs
+trace-in-requires-3 : tie.Need-trace-in-requires-3
+trace-in-requires-3 c κs =
+    let fresh = c .before .before .before in
+    let counted = fresh .before .before .before .before in
+    serves large _ _ _ 256 large-usable (lit≤ tt) (fresh .before .all-targets .ensures) (fresh .all-labels .ensures)
+    (omega (arith, counted .states .ensures .1, states-are counted))
 
 pub trace-spec : {M : Type 1} → statement M
 trace-spec =
     tie.close
     (tie.spec
+    (λ c κs. search needs)
     states-requires
-    small-requires
-    slice-aggregate-trace-with
-    trace-with-requires
-    same-length
-    returns
-    middle-requires
-    slice-aggregate-trace-with-2
-    trace-with-requires-2
-    same-length-2
-    returns-2
-    whole-requires
-    slice-aggregate-trace-with-3
-    trace-with-requires-3
-    same-length-3
-    returns-3)
+    (λ c κs. search needs)
+    (λ c κs. search needs)
+    (λ c. search needs)
+    (λ c. search needs)
+    trace-in-requires
+    (λ c. search needs)
+    (λ c. search needs)
+    (λ c κs. search needs)
+    (λ c κs. search needs)
+    (λ c. search needs)
+    (λ c. search needs)
+    trace-in-requires-2
+    (λ c. search needs)
+    (λ c. search needs)
+    (λ c κs. search needs)
+    (λ c κs. search needs)
+    (λ c. search needs)
+    (λ c. search needs)
+    trace-in-requires-3
+    (λ c. search needs)
+    (λ c. search needs))
