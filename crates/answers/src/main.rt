@@ -1,31 +1,22 @@
-// Answers a batch of cases, for comparison with the second program. All numbers are big-endian.
-//
-// In: 8 bytes, how many cases; then each case: 1 byte, the call; two numbers of 8 bytes; three lengths of 4 bytes, each at most
-// 131,072; and as many bytes for each of the strings a, b and c.
-// Out, each case: 1 byte, the refusal's number or 0; 8 bytes, its place; four counts of 8 bytes; then b and c as the call left them.
+// Answers a batch of cases, for comparison with the second program. `cases` says how they are framed; a string has at most 131,072 bytes.
 //
 // 1, check: a is the file. 2, unpack: a is the file, b and c are the rooms for colours and edges. 3, pack: a and b are the colours
 // and the edges, c is the room, the two numbers are m and the start. 4, trace: a is the file, b the observations, c the room for
 // colours; its counts are 0 and 0 where all is traced, 1 and i where it stops at i. 5, reduce: a is the file, b the answer room, c the
 // class list, two bytes an entry; an odd last byte is no entry. A case that is cut off, or of another call, ends the batch.
+use cases::Answer;
+use cases::Head;
+use cases::Next;
 use file::Checked;
 use file::Packed;
 use file::Reading;
 use file::Refusal;
 use file::Unpacked;
-use libc::STDIN_FILENO;
-use libc::STDOUT_FILENO;
 use reduction::Reduced;
 use tracing::Traced;
 ghost use mathlib.Core.Path.{_≡_};
-ghost use Prim.Native.Nat.{_≤_, _<_, _^_};
+ghost use Prim.Native.Nat.{_≤_};
 ghost use lib.ListN.{length};
-
-struct Answer {
-    number: u8,
-    place: u64,
-    counts: [u64; 4],
-}
 
 fn of_refusal(why: Refusal) -> Answer {
     let kind = why.kind;
@@ -106,186 +97,110 @@ fn reduced(answer: Reduced) -> Answer {
     }
 }
 
-fn no_entries() -> [u16; 65536]
-    ensures { λ r. ⌜ 65536 ≡ length r ⌝ }
-{
-    [0; 65536]
+// Each call on its own, its answer as it is written: of what the call promises nothing is needed here.
+fn check(file: &[u8]) -> Answer {
+    checked(file::check(file))
 }
 
-fn wide(x: u16) -> u64
-    ensures { λ r. ⌜ (r ≡ x) × (r < 2 ^ 16) ⌝ }
-{
-    x as u64
+fn unpack(file: &[u8], colours: &mut [u8], edges: &mut [u8]) -> Answer {
+    unpacked(file::unpack(file, colours, edges))
 }
 
-// The entries of two bytes each.
-fn read_entries(s: &[u8], list: &mut [u16])
-    requires { ⌜ length (now list) ≤ 65536 ⌝ }
-{
-    let mut i = 0;
-    while i < list.len() {
-        list[i] = bits::get(s, i * 16, 16) as u16;
-        i += 1;
-    }
+fn pack(colours: &[u8], edges: &[u8], m: u64, start: u64, room: &mut [u8]) -> Answer {
+    packed(file::pack(colours, edges, m as usize, start as usize, room))
 }
 
-fn write_entries(s: &mut [u8], list: &[u16])
-    requires { ⌜ length (now list) ≤ 65536 ⌝ }
-{
-    let mut i = 0;
-    while i < list.len() {
-        bits::put(s, i * 16, 16, wide(list[i]));
-        i += 1;
-    }
+fn trace(file: &[u8], observations: &[u8], colours: &mut [u8]) -> Answer {
+    traced(tracing::trace(file, observations, colours))
 }
 
-// The call with the entries of a list, which go back to the bytes they came from.
+fn reduce_into(file: &[u8], answer: &mut [u8], classes: &mut [u16]) -> Answer {
+    reduced(reduction::reduce(file, answer, classes))
+}
+
+// The class list's entries go back to the bytes they came from.
 fn reduce_with(file: &[u8], answer: &mut [u8], bytes: &mut [u8], list: &mut [u16]) -> Answer
     requires { ⌜ length (now list) ≤ 65536 ⌝ }
 {
-    read_entries(bytes, list);
-    let made = reduced(reduction::reduce(file, answer, list));
-    write_entries(bytes, list);
+    let made = reduce_into(file, answer, list);
+    cases::write_entries(bytes, list);
     made
 }
 
 fn reduce(file: &[u8], answer: &mut [u8], bytes: &mut [u8]) -> Answer {
-    let mut entries = no_entries();
-    let n = bytes.len() / 2;
-    // The strings of a case are short enough.
-    if n <= 65536 {
-        return reduce_with(file, answer, bytes, &mut entries[0..n]);
+    let mut entries = cases::read_entries(bytes);
+    let n = cases::entries_in(bytes);
+    reduce_with(file, answer, bytes, &mut entries[0..n])
+}
+
+// Makes one of the five calls; what is not one of the first four is the fifth.
+fn answer(head: Head, a: &[u8], b: &mut [u8], c: &mut [u8]) -> Answer {
+    if head.call == 1 {
+        return check(a);
     }
-    reduce_with(file, answer, bytes, &mut entries)
-}
-
-// The number of eight bytes from bit `at` on.
-fn long(s: &[u8], at: usize) -> u64
-    requires { ⌜ at < 1000 ⌝ }
-{
-    let high = bits::get(s, at, 16) * 65536 + bits::get(s, at + 16, 16);
-    let low = bits::get(s, at + 32, 16) * 65536 + bits::get(s, at + 48, 16);
-    high * 4294967296 + low
-}
-
-// The number of four bytes from bit `at` on.
-fn short(s: &[u8], at: usize) -> usize
-    requires { ⌜ at < 1000 ⌝ }
-{
-    (bits::get(s, at, 16) * 65536 + bits::get(s, at + 16, 16)) as usize
-}
-
-fn put_long(out: &mut [u8], at: usize, n: u64)
-    requires { ⌜ at < 1000 ⌝ }
-{
-    bits::put(out, at, 16, n / 281474976710656);
-    bits::put(out, at + 16, 16, n / 4294967296 % 65536);
-    bits::put(out, at + 32, 16, n / 65536 % 65536);
-    bits::put(out, at + 48, 16, n % 65536);
-}
-
-// The number, the place and the counts of an answer, in 41 bytes.
-fn write_answer(answer: Answer) {
-    let counts = answer.counts;
-    let mut out = [0u8; 41];
-    out[0] = answer.number;
-    put_long(&mut out, 8, answer.place);
-    write_counts(out, counts);
-}
-
-fn write_counts(head: [u8; 41], counts: [u64; 4]) {
-    let mut out = head;
-    put_long(&mut out, 72, counts[0]);
-    put_long(&mut out, 136, counts[1]);
-    put_long(&mut out, 200, counts[2]);
-    put_long(&mut out, 264, counts[3]);
-    io::write_all(STDOUT_FILENO, &out);
-}
-
-// Writes the strings behind an answer; whether they were taken.
-fn write_strings(b: &[u8], c: &[u8]) -> bool {
-    if !io::write_all(STDOUT_FILENO, b) {
-        return false;
+    if head.call == 2 {
+        return unpack(a, b, c);
     }
-    io::write_all(STDOUT_FILENO, c)
+    if head.call == 3 {
+        return pack(a, b, head.first, head.second, c);
+    }
+    if head.call == 4 {
+        return trace(a, b, c);
+    }
+    reduce(a, b, c)
 }
 
 // Makes the call and writes its answer and the strings behind it; whether there is such a call.
-fn make_call(call: u64, first: u64, second: u64, a: &[u8], b: &mut [u8], c: &mut [u8]) -> bool {
-    if call == 1 {
-        write_answer(checked(file::check(a)));
-        return write_strings(b, c);
+fn make_call(head: Head, a: &[u8], b: &mut [u8], c: &mut [u8]) -> bool {
+    if head.call < 1 || 5 < head.call {
+        return false;
     }
-    if call == 2 {
-        write_answer(unpacked(file::unpack(a, b, c)));
-        return write_strings(b, c);
-    }
-    if call == 3 {
-        write_answer(packed(file::pack(a, b, first as usize, second as usize, c)));
-        return write_strings(b, c);
-    }
-    if call == 4 {
-        write_answer(traced(tracing::trace(a, b, c)));
-        return write_strings(b, c);
-    }
-    if call == 5 {
-        write_answer(reduce(a, b, c));
-        return write_strings(b, c);
-    }
-    false
+    cases::write_answer(answer(head, a, b, c));
+    cases::write_strings(b, c)
 }
 
-// Reads n bytes to the front of s, and answers how many there were.
-fn read_string(s: &mut [u8], n: usize) -> usize
-    requires { ⌜ n ≤ length (now s) ⌝ }
-{
-    io::read_full(STDIN_FILENO, &mut s[0..n])
+// Reads the string c and answers the case; whether it was whole.
+fn with_c(head: Head, a: &[u8], b: &mut [u8], c: &mut [u8]) -> bool {
+    let n = head.c;
+    if c.len() < n {
+        return false;
+    }
+    if !cases::read_string(c, n) {
+        return false;
+    }
+    make_call(head, a, b, &mut c[0..n])
+}
+
+// Reads the strings b and c and answers the case; whether it was whole.
+fn with_b(head: Head, a: &[u8], b: &mut [u8], c: &mut [u8]) -> bool {
+    let n = head.b;
+    if b.len() < n {
+        return false;
+    }
+    if !cases::read_string(b, n) {
+        return false;
+    }
+    with_c(head, a, &mut b[0..n], c)
+}
+
+// Reads the three strings and answers the case; whether it was whole.
+fn with_a(head: Head, a: &mut [u8], b: &mut [u8], c: &mut [u8]) -> bool {
+    let n = head.a;
+    if a.len() < n {
+        return false;
+    }
+    if !cases::read_string(a, n) {
+        return false;
+    }
+    with_b(head, &a[0..n], b, c)
 }
 
 // Reads one case and answers it; whether it was whole.
 fn one_case(a: &mut [u8], b: &mut [u8], c: &mut [u8]) -> bool {
-    let mut head = [0u8; 29];
-    if io::read_full(STDIN_FILENO, &mut head) < 29 {
-        return false;
+    match cases::next_case() {
+        Next::Case(head) => with_a(head, a, b, c),
+        Next::CutOff => false,
     }
-    let length_a = short(&head, 136);
-    let length_b = short(&head, 168);
-    let length_c = short(&head, 200);
-    if a.len() < length_a {
-        return false;
-    }
-    if b.len() < length_b {
-        return false;
-    }
-    if c.len() < length_c {
-        return false;
-    }
-    if read_string(a, length_a) < length_a {
-        return false;
-    }
-    if read_string(b, length_b) < length_b {
-        return false;
-    }
-    if read_string(c, length_c) < length_c {
-        return false;
-    }
-    lend(
-        head,
-        &a[0..length_a],
-        &mut b[0..length_b],
-        &mut c[0..length_c],
-    )
-}
-
-fn lend(head: [u8; 29], a: &[u8], b: &mut [u8], c: &mut [u8]) -> bool {
-    make_call(
-        bits::get(&head, 0, 8),
-        long(&head, 8),
-        long(&head, 72),
-        a,
-        b,
-        c,
-    )
 }
 
 fn batch(cases: u64, a: &mut [u8], b: &mut [u8], c: &mut [u8]) {
@@ -305,12 +220,8 @@ fn string() -> [u8; 131072]
 }
 
 fn main() {
-    let mut count = [0u8; 8];
-    if io::read_full(STDIN_FILENO, &mut count) < 8 {
-        return;
-    }
     let mut a = string();
     let mut b = string();
     let mut c = string();
-    batch(long(&count, 0), &mut a, &mut b, &mut c);
+    batch(cases::count(), &mut a, &mut b, &mut c);
 }
