@@ -7,7 +7,7 @@ TIME ?= 600
 
 run:
 	@mkdir -p target
-	@rt check reduce >target/run.log 2>&1 || { cat target/run.log; exit 1; }
+	@ABOUT='about two minutes on two cores' .ci/progress target/run.log rt check reduce
 	@.ci/run-bin target/bin/reduce <"$(FILE)"
 
 test:
@@ -15,10 +15,12 @@ test:
 
 # The archive for C, target/staticlib/libpierhollow.a; include/pierhollow.h goes with it.
 lib:
-	@rt staticlib pierhollow
+	@mkdir -p target
+	@.ci/progress target/lib.log rt staticlib pierhollow
 
 programs:
-	@rt check reduce shrink trace
+	@mkdir -p target
+	@.ci/progress target/programs.log rt check reduce shrink trace
 
 # Programs and archive are x86-64; PREFIX and DESTDIR say where they go.
 install: lib programs
@@ -34,5 +36,6 @@ bench: lib
 
 # Random cases through both programs for TIME seconds.
 soak:
-	@rt check answers >target/soak.log 2>&1 || { cat target/soak.log; exit 1; }
+	@mkdir -p target
+	@.ci/progress target/soak.log rt check answers
 	@cargo run --release --offline --quiet --manifest-path second/Cargo.toml --bin soak -- $(TIME)

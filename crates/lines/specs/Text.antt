@@ -1,23 +1,12 @@
 -- The text that the programs print (document 01, "Three programs"): fields parted by one space, decimal numbers, each line ended by
 -- one newline byte. Bytes are ASCII.
 -- Assumes nothing.
-use Prim.Native.Nat.{ℕ, zero, suc, _+_, _/_, _%_}
+use Prim.Native.Nat.{ℕ, suc}
 use mathlib.Core.List.{List, [], _∷_, _++_}
-use lib.Dec.{ltb}
-use lib.ListN.{length, take, drop}
-use Rattle.meaning.specs.Pick.{pick}
+use Rattle.text.specs.Decimal.{decimal}
 use Rattle.file.specs.Answers.{numberOf}
 use Rattle.tracing.specs.declared.Traced.{Traced}
 use Rattle.tracing.specs.declared.Traced.the-variants as traced
-
--- A number of at most k digits, without leading zeros.
-unfoldable pub digitsOf : ℕ → ℕ → List ℕ
-digitsOf zero n = []
-digitsOf (suc k) n = pick (ltb n 10) ((48 + n) ∷ []) (digitsOf k (n / 10) ++ ((48 + n % 10) ∷ []))
-
--- A number of 64 bits has at most 20 digits.
-unfoldable pub decimal : ℕ → List ℕ
-decimal n = digitsOf 20 n
 
 abbrev pub space : List ℕ
 space = 32 ∷ []
@@ -76,7 +65,3 @@ pairLines s (k ∷ ks) = pairLine s k ++ pairLines (suc s) ks
 -- What `reduce` prints: original states, reduced states, distinct colours and rounds on one line, then each state's line.
 unfoldable pub reducedText : ℕ → ℕ → ℕ → ℕ → List ℕ → List ℕ
 reducedText n states colours rounds numbers = fourLine n states colours rounds ++ pairLines 0 numbers
-
--- A text written into a room from a place on: what stands before and behind it stays.
-abbrev pub wrote : List ℕ → ℕ → List ℕ → List ℕ
-wrote room at text = take at room ++ text ++ drop (at + length text) room

@@ -2,49 +2,12 @@
 use file::Refusal;
 use tracing::Traced;
 ghost use mathlib.Core.Path.{_≡_};
-ghost use mathlib.Core.List.{[], _∷_, _++_};
+ghost use mathlib.Core.List.{_++_};
 ghost use Prim.Native.Nat.{_+_, _*_, _<_, _≤_};
 ghost use lib.ListN.{length};
 ghost use Rattle.file.specs.Answers.{numberOf};
-ghost use Rattle.lines.specs.Text.{decimal, ended, pairLine, fourLine, stoppedWord, refusalLine, numberLines, pairLines, lastLine, reducedText, wrote};
-
-// Puts bytes into the room from `at` on, and answers the place behind them.
-fn put(room: &mut [u8], at: usize, bytes: &[u8]) -> usize
-    requires { ⌜ at + length (now bytes) ≤ length (now room) ⌝ }
-    ensures { λ r. ⌜ (now (room .exit) ≡ wrote (now (room .entry)) at (now (bytes .entry))) × (r ≡ at + length (now (bytes .entry))) ⌝ }
-{
-    let mut i = 0;
-    while i < bytes.len() {
-        room[at + i] = bytes[i];
-        i += 1;
-    }
-    at + i
-}
-
-fn digits() -> [u8; 20]
-    ensures { λ r. ⌜ 20 ≡ length r ⌝ }
-{
-    [0; 20]
-}
-
-// A number in decimal.
-fn put_decimal(room: &mut [u8], at: usize, n: u64) -> usize
-    requires { ⌜ at + 20 ≤ length (now room) ⌝ }
-    ensures { λ r. ⌜ (now (room .exit) ≡ wrote (now (room .entry)) at (decimal n)) × (r ≡ at + length (decimal n)) × (length (decimal n) ≤ 20) ⌝ }
-{
-    let mut text = digits();
-    let k = io::decimal(n, &mut text);
-    put(room, at, &text[0..k])
-}
-
-// A number in decimal and the byte behind it.
-fn put_number(room: &mut [u8], at: usize, n: u64, behind: u8) -> usize
-    requires { ⌜ at + 21 ≤ length (now room) ⌝ }
-    ensures { λ r. ⌜ (now (room .exit) ≡ wrote (now (room .entry)) at (decimal n ++ (behind ∷ []))) × (r ≡ at + length (decimal n ++ (behind ∷ []))) × (r ≤ at + 21) ⌝ }
-{
-    let end = put_decimal(room, at, n);
-    put(room, end, &[behind])
-}
+ghost use Rattle.text.specs.Decimal.{wrote};
+ghost use Rattle.lines.specs.Text.{ended, pairLine, fourLine, stoppedWord, refusalLine, numberLines, pairLines, lastLine, reducedText};
 
 fn wide(x: u8) -> u64
     ensures { λ r. ⌜ (r ≡ x) × (r < 256) ⌝ }
@@ -63,7 +26,7 @@ fn put_line(room: &mut [u8], at: usize, n: u8) -> usize
     requires { ⌜ at + 21 ≤ length (now room) ⌝ }
     ensures { λ r. ⌜ (now (room .exit) ≡ wrote (now (room .entry)) at (ended n)) × (r ≡ at + length (ended n)) × (r ≤ at + 4) ⌝ }
 {
-    put_number(room, at, wide(n), b'\n')
+    text::put_number(room, at, wide(n), b'\n')
 }
 
 // The numbers, one a line.
@@ -85,8 +48,8 @@ fn put_two(room: &mut [u8], at: usize, a: u64, b: u64) -> usize
     requires { ⌜ at + 42 ≤ length (now room) ⌝ }
     ensures { λ r. ⌜ (now (room .exit) ≡ wrote (now (room .entry)) at (pairLine a b)) × (r ≡ at + length (pairLine a b)) × (r ≤ at + 42) ⌝ }
 {
-    let second = put_number(room, at, a, b' ');
-    put_number(room, second, b, b'\n')
+    let second = text::put_number(room, at, a, b' ');
+    text::put_number(room, second, b, b'\n')
 }
 
 // Four numbers on a line, at the room's beginning.
@@ -94,8 +57,8 @@ fn put_four(room: &mut [u8], a: u64, b: u64, c: u64, d: u64) -> usize
     requires { ⌜ 84 ≤ length (now room) ⌝ }
     ensures { λ r. ⌜ (now (room .exit) ≡ wrote (now (room .entry)) 0 (fourLine a b c d)) × (r ≡ length (fourLine a b c d)) × (r ≤ 84) ⌝ }
 {
-    let second = put_number(room, 0, a, b' ');
-    let third = put_number(room, second, b, b' ');
+    let second = text::put_number(room, 0, a, b' ');
+    let third = text::put_number(room, second, b, b' ');
     put_two(room, third, c, d)
 }
 
@@ -106,7 +69,7 @@ pub fn put_refusal(room: &mut [u8], at: usize, why: Refusal) -> usize
 {
     let kind = why.kind;
     let place = why.place;
-    let behind = put(room, at, b"refused ");
+    let behind = text::put(room, at, b"refused ");
     put_two(room, behind, wide(file::number(kind)), place as u64)
 }
 
@@ -114,8 +77,8 @@ fn put_stop(room: &mut [u8], at: usize, i: usize) -> usize
     requires { ⌜ at + 50 ≤ length (now room) ⌝ }
     ensures { λ r. ⌜ (now (room .exit) ≡ wrote (now (room .entry)) at (stoppedWord ++ ended i)) × (r ≡ at + length (stoppedWord ++ ended i)) ⌝ }
 {
-    let word = put(room, at, b"stopped ");
-    put_number(room, word, i as u64, b'\n')
+    let word = text::put(room, at, b"stopped ");
+    text::put_number(room, word, i as u64, b'\n')
 }
 
 // The last line of what trace prints.
@@ -124,7 +87,7 @@ fn put_last(room: &mut [u8], at: usize, answer: Traced) -> usize
     ensures { λ r. ⌜ (now (room .exit) ≡ wrote (now (room .entry)) at (lastLine answer)) × (r ≡ at + length (lastLine answer)) ⌝ }
 {
     match answer {
-        Traced::All => put(room, at, b"traced\n"),
+        Traced::All => text::put(room, at, b"traced\n"),
         Traced::Stopped(i) => put_stop(room, at, i),
         Traced::Refused(why) => put_refusal(room, at, why),
     }

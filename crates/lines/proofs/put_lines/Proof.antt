@@ -1,14 +1,15 @@
 -- `lines::put_lines` meets its contract. The invariant: the first numbers' lines stand at the room's beginning. Assumes nothing.
 use mathlib.Core.Path.{_≡_, refl, ap, _∙_}
-use mathlib.Core.List.{List}
 use Prim.Native.Nat.{ℕ, _+_, _*_, _-_, _≤_}
 use native.Mathlib.Nat.{le-antisymm, zero-add}
 use native.Mathlib.Omega.{arith}
 use denote.Ref.{now}
 use lib.ListN.{length, getD, take}
 use lib.Seq.{take-length}
-use Rattle.lines.specs.Text.{ended, numberLines, wrote}
-use Rattle.lines.proofs.Laws.{both, lines-more}
+use Rattle.text.specs.Decimal.{wrote}
+use Rattle.text.proofs.Laws.{same, both}
+use Rattle.lines.specs.Text.{ended, numberLines}
+use Rattle.lines.proofs.Laws.{lines-more}
 use Rattle.lines.proofs.put_lines.Statement.{statement}
 use Rattle.lines.proofs.put_lines.Tie as tie
 
@@ -23,18 +24,6 @@ loop-holds : tie.Need-loop-holds Inv-loop μ-loop
 unfolding numberLines
 loop-holds c = (omega arith, omega arith, refl, refl, omega arith)
 
-shared-slice-read-put-line : tie.Need-shared-slice-read-put-line Inv-loop μ-loop
-shared-slice-read-put-line c = omega arith
-
-put-line-requires : tie.Need-put-line-requires Inv-loop μ-loop
-put-line-requires c κs = omega arith
-
-add-i : tie.Need-add-i Inv-loop μ-loop
-add-i c = omega arith
-
-loop-less : tie.Need-loop-less Inv-loop μ-loop
-loop-less c = omega arith
-
 loop-again : tie.Need-loop-again Inv-loop μ-loop
 loop-again c =
     let put = c .before .before in
@@ -42,18 +31,10 @@ loop-again c =
     let a = put .before .before .before .before .before .before .before .args in
     let ns = now (a .numbers) in
     let more = lines-more ns (loop .i) (put .before .before .before .loop-test .taken) in
-    let done =
-    both (now (a .room)) (loop .room) (put .put-line .last .0) 0 (loop .at) (put .put-line .result) (numberLines (take (loop .i) ns)) (ended (getD ns (loop .i) 0)) (omega arith) (loop .inv .3)
-    (loop .inv .4) (put .put-line .ensures .0) (put .put-line .ensures .1) in (
-      omega arith,
-      omega (arith, put .put-line .ensures .2),
-      put .put-line .kept .0 ∙ loop .inv .2,
-      done .0 ∙ ap (wrote (now (a .room)) 0) more,
-      done .1 ∙ ap (λ (l : List ℕ). 0 + length l) more,
-    )
-
-same-length : tie.Need-same-length Inv-loop μ-loop
-same-length c = c .before .loop .inv .2
+    let line =
+    both (now (a .room)) 0 (numberLines (take (loop .i) ns)) (ended (getD ns (loop .i) 0)) (omega arith) (loop .inv .3) (loop .inv .4) (put .put-line .ensures .0) (put .put-line .ensures .1) in
+    let done = same (now (a .room)) 0 more (line .0) (line .1) in
+    (omega arith, omega (arith, put .put-line .ensures .2), put .put-line .kept .0 ∙ loop .inv .2, done .0, done .1)
 
 returns : tie.Need-returns Inv-loop μ-loop
 returns c =
@@ -61,20 +42,9 @@ returns c =
     let a = c .before .before .before .before .args in
     let ns = now (a .numbers) in
     let all : loop .i ≡ length ns = le-antisymm (loop .inv .0) (c .loop-test .left) in
-    let is : take (loop .i) ns ≡ ns = ap (λ (k : ℕ). take k ns) all ∙ take-length ns in
-    (loop .inv .3 ∙ ap (λ (l : List ℕ). wrote (now (a .room)) 0 (numberLines l)) is, loop .inv .4 ∙ zero-add _ ∙ ap (λ (l : List ℕ). length (numberLines l)) is, omega (arith, all, loop .inv .1))
+    let is = ap (λ (k : ℕ). numberLines (take k ns)) all ∙ ap numberLines (take-length ns) in
+    let done = same (now (a .room)) 0 is (loop .inv .3) (loop .inv .4) in
+    (done .0, done .1 ∙ zero-add _, omega (arith, all, loop .inv .1))
 
 pub put-lines-spec : {M : Type 1} → statement M
-put-lines-spec =
-    tie.close
-    (tie.spec
-    Inv-loop
-    μ-loop
-    loop-holds
-    shared-slice-read-put-line
-    put-line-requires
-    add-i
-    loop-less
-    loop-again
-    same-length
-    returns)
+put-lines-spec = tie.close (tie.spec Inv-loop μ-loop loop-holds (λ c. omega arith) (λ c κs. omega arith) (λ c. omega arith) (λ c. omega arith) loop-again (λ c. c .before .loop .inv .2) returns)

@@ -1,0 +1,148 @@
+// The calls of the cases of a batch, each with its answer as it is written. Of what a call promises nothing is needed here.
+//
+// 1, check: a is the file. 2, unpack: a is the file, b and c are the rooms for colours and edges. 3, pack: a and b are the colours
+// and the edges, c is the room, the two numbers are m and the start. 4, trace: a is the file, b the observations, c the room for
+// colours; its counts are 0 and 0 where all is traced, 1 and i where it stops at i. 5, reduce: a is the file, b the answer room, c the
+// class list, two bytes an entry; an odd last byte is no entry.
+use cases::Answer;
+use cases::Head;
+use file::Checked;
+use file::Packed;
+use file::Reading;
+use file::Refusal;
+use file::Unpacked;
+use reduction::Reduced;
+use tracing::Traced;
+ghost use Prim.Native.Nat.{_≤_};
+ghost use lib.ListN.{length};
+
+fn of_refusal(why: Refusal) -> Answer {
+    let kind = why.kind;
+    Answer {
+        number: file::number(kind),
+        place: why.place as u64,
+        counts: [0; 4],
+    }
+}
+
+fn of_reading(r: Reading) -> Answer {
+    Answer {
+        number: 0,
+        place: 0,
+        counts: [
+            r.states as u64,
+            r.labels as u64,
+            r.start as u64,
+            r.edges as u64,
+        ],
+    }
+}
+
+fn checked(answer: Checked) -> Answer {
+    match answer {
+        Checked::Accepted(r) => of_reading(r),
+        Checked::Refused(why) => of_refusal(why),
+    }
+}
+
+fn unpacked(answer: Unpacked) -> Answer {
+    match answer {
+        Unpacked::Accepted(r) => of_reading(r),
+        Unpacked::Refused(why) => of_refusal(why),
+    }
+}
+
+fn packed(answer: Packed) -> Answer {
+    match answer {
+        Packed::Accepted(n) => Answer {
+            number: 0,
+            place: 0,
+            counts: [n as u64, 0, 0, 0],
+        },
+        Packed::Refused(why) => of_refusal(why),
+    }
+}
+
+fn traced(answer: Traced) -> Answer {
+    match answer {
+        Traced::All => Answer {
+            number: 0,
+            place: 0,
+            counts: [0; 4],
+        },
+        Traced::Stopped(i) => Answer {
+            number: 0,
+            place: 0,
+            counts: [1, i as u64, 0, 0],
+        },
+        Traced::Refused(why) => of_refusal(why),
+    }
+}
+
+fn reduced(answer: Reduced) -> Answer {
+    match answer {
+        Reduced::Accepted(c) => Answer {
+            number: 0,
+            place: 0,
+            counts: [
+                c.states as u64,
+                c.colours as u64,
+                c.rounds as u64,
+                c.length as u64,
+            ],
+        },
+        Reduced::Refused(why) => of_refusal(why),
+    }
+}
+
+fn check(file: &[u8]) -> Answer {
+    checked(file::check(file))
+}
+
+fn unpack(file: &[u8], colours: &mut [u8], edges: &mut [u8]) -> Answer {
+    unpacked(file::unpack(file, colours, edges))
+}
+
+fn pack(colours: &[u8], edges: &[u8], m: u64, start: u64, room: &mut [u8]) -> Answer {
+    packed(file::pack(colours, edges, m as usize, start as usize, room))
+}
+
+fn trace(file: &[u8], observations: &[u8], colours: &mut [u8]) -> Answer {
+    traced(tracing::trace(file, observations, colours))
+}
+
+fn reduce_into(file: &[u8], answer: &mut [u8], classes: &mut [u16]) -> Answer {
+    reduced(reduction::reduce(file, answer, classes))
+}
+
+// The class list's entries go back to the bytes they came from.
+fn reduce_with(file: &[u8], answer: &mut [u8], bytes: &mut [u8], list: &mut [u16]) -> Answer
+    requires { ⌜ length (now list) ≤ 65536 ⌝ }
+{
+    let made = reduce_into(file, answer, list);
+    cases::write_entries(bytes, list);
+    made
+}
+
+fn reduce(file: &[u8], answer: &mut [u8], bytes: &mut [u8]) -> Answer {
+    let mut entries = cases::read_entries(bytes);
+    let n = cases::entries_in(bytes);
+    reduce_with(file, answer, bytes, &mut entries[0..n])
+}
+
+// Makes one of the five calls; what is not one of the first four is the fifth.
+pub fn answer(head: Head, a: &[u8], b: &mut [u8], c: &mut [u8]) -> Answer {
+    if head.call == 1 {
+        return check(a);
+    }
+    if head.call == 2 {
+        return unpack(a, b, c);
+    }
+    if head.call == 3 {
+        return pack(a, b, head.first, head.second, c);
+    }
+    if head.call == 4 {
+        return trace(a, b, c);
+    }
+    reduce(a, b, c)
+}
