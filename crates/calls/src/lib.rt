@@ -6,20 +6,20 @@
 // class list, two bytes an entry; an odd last byte is no entry.
 use cases::Answer;
 use cases::Head;
-use file::Checked;
-use file::Packed;
-use file::Reading;
-use file::Refusal;
-use file::Unpacked;
+use checking::Checked;
+use layout::Reading;
+use packing::Packed;
 use reduction::Reduced;
+use refusals::Refusal;
 use tracing::Traced;
+use unpacking::Unpacked;
 ghost use Prim.Native.Nat.{_≤_};
 ghost use lib.ListN.{length};
 
 fn of_refusal(why: Refusal) -> Answer {
     let kind = why.kind;
     Answer {
-        number: file::number(kind),
+        number: refusals::number(kind),
         place: why.place as u64,
         counts: [0; 4],
     }
@@ -96,15 +96,15 @@ fn reduced(answer: Reduced) -> Answer {
 }
 
 fn check(file: &[u8]) -> Answer {
-    checked(file::check(file))
+    checked(checking::check(file))
 }
 
 fn unpack(file: &[u8], colours: &mut [u8], edges: &mut [u8]) -> Answer {
-    unpacked(file::unpack(file, colours, edges))
+    unpacked(unpacking::unpack(file, colours, edges))
 }
 
 fn pack(colours: &[u8], edges: &[u8], m: u64, start: u64, room: &mut [u8]) -> Answer {
-    packed(file::pack(colours, edges, m as usize, start as usize, room))
+    packed(packing::pack(colours, edges, m as usize, start as usize, room))
 }
 
 fn trace(file: &[u8], observations: &[u8], colours: &mut [u8]) -> Answer {

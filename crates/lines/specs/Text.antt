@@ -4,7 +4,7 @@
 use Prim.Native.Nat.{ℕ, suc}
 use mathlib.Core.List.{List, [], _∷_, _++_}
 use Rattle.text.specs.Decimal.{decimal}
-use Rattle.file.specs.Answers.{numberOf}
+use Rattle.refusals.specs.Refusals.{numberOf}
 use Rattle.tracing.specs.declared.Traced.{Traced}
 use Rattle.tracing.specs.declared.Traced.the-variants as traced
 

@@ -136,7 +136,9 @@ fn all_below(limit: usize, values: &[u8]) -> bool
 
 // Writes the file of lists that were tested into a room that holds it.
 fn write(p: Profile, colours: &[u8], edges: &[u8], m: usize, start: usize, room: &mut [u8])
-    requires { ⌜ Usable p × (packOf p (now colours) (now edges) m start (length (now room)) ≡ accepted (lengthOf p (listed (now colours) (now edges) m start) ∷ [])) ⌝ }
+    requires { ⌜ Usable p
+        × (packOf p (now colours) (now edges) m start (length (now room))
+        ≡ accepted (lengthOf p (listed (now colours) (now edges) m start) ∷ [])) ⌝ }
     ensures { λ _. ⌜ now (room .exit) ≡ laid (written p (listed (now (colours .entry)) (now (edges .entry)) m start)) (now (room .entry)) ⌝ }
 {
     let n = colours.len();

@@ -32,13 +32,13 @@ pub record UnpackToC (file : List ℕ) (found : unpacking.Rooms) (values : List 
 pub record PackToC (colours edges : List ℕ) (m start : ℕ) (room values : List ℕ) (r : ℕ) (room′ values′ : List ℕ) : Type 0 where
   pub told : Told (packOf large colours edges m start (length room)) values r values′
   pub room-after : room′
-    ≡ roomAfter (packOf large colours edges m start (length room)) (written large (listed colours edges m start)) room
+      ≡ roomAfter (packOf large colours edges m start (length room)) (written large (listed colours edges m start)) room
 
 -- Values: 0 and 0 where all is traced, 1 and i where the ride stops at observation i.
 pub record TraceToC (file observations colours values : List ℕ) (r : ℕ) (colours′ values′ : List ℕ) : Type 0 where
   pub told : Told (traceOf large file observations (length colours)) values r values′
   pub colours-after : colours′
-    ≡ roomAfter (traceOf large file observations (length colours)) (shown (filterIn large file) observations) colours
+      ≡ roomAfter (traceOf large file observations (length colours)) (shown (filterIn large file) observations) colours
 
 -- Values: states, distinct colours, rounds and the length in bytes.
 pub record ReduceToC (file : List ℕ) (found : reduction.Rooms) (values : List ℕ) (r : ℕ) (left : reduction.Rooms) (values′ : List ℕ) : Type 0 where

@@ -1,16 +1,16 @@
 // Reduces the filter file on standard input, and prints its counts and the new number of each state.
-use file::Checked;
-use file::Refusal;
+use checking::Checked;
 use libc::STDIN_FILENO;
 use libc::STDOUT_FILENO;
 use reduction::Counts;
 use reduction::Reduced;
+use refusals::Refusal;
 ghost use Prim.Native.Nat.{_≤_};
 ghost use lib.ListN.{length};
 
 // How many states the file has; 0 where it is refused.
 fn states(file: &[u8]) -> usize {
-    match file::check(file) {
+    match checking::check(file) {
         Checked::Accepted(reading) => reading.states,
         Checked::Refused(_) => 0,
     }

@@ -93,15 +93,7 @@ fn reduce_as(
     if classes.len() < reading.states {
         return Reduced::Refused(refusals::plain(Kind::ClassRoom));
     }
-    Reduced::Accepted(fold(
-        p,
-        targets,
-        labels,
-        file,
-        reading,
-        answer,
-        classes,
-    ))
+    Reduced::Accepted(fold(p, targets, labels, file, reading, answer, classes))
 }
 
 // Reduces a file that was checked and whose edges are in the table, into rooms that are long enough.
@@ -124,7 +116,14 @@ fn fold(
     let last = ending.last;
     let names = last.names;
     let made = merging::merged(
-        p, targets, labels, &colours, &names, reading, answer, classes,
+        p,
+        targets,
+        labels,
+        &colours,
+        &names,
+        reading,
+        answer,
+        classes,
     );
     Counts {
         states: made.states,

@@ -8,7 +8,8 @@ ghost use Rattle.text.specs.Decimal.{decimal, wrote};
 // Puts bytes into the room from `at` on, and answers the place behind them.
 pub fn put(room: &mut [u8], at: usize, bytes: &[u8]) -> usize
     requires { ⌜ at + length (now bytes) ≤ length (now room) ⌝ }
-    ensures { λ r. ⌜ (now (room .exit) ≡ wrote (now (room .entry)) at (now (bytes .entry))) × (r ≡ at + length (now (bytes .entry))) ⌝ }
+    ensures { λ r. ⌜ (now (room .exit) ≡ wrote (now (room .entry)) at (now (bytes .entry)))
+        × (r ≡ at + length (now (bytes .entry))) ⌝ }
 {
     let mut i = 0;
     while i < bytes.len() {
@@ -27,7 +28,8 @@ fn digits() -> [u8; 20]
 // A number in decimal.
 fn put_decimal(room: &mut [u8], at: usize, n: u64) -> usize
     requires { ⌜ at + 20 ≤ length (now room) ⌝ }
-    ensures { λ r. ⌜ (now (room .exit) ≡ wrote (now (room .entry)) at (decimal n)) × (r ≡ at + length (decimal n)) × (length (decimal n) ≤ 20) ⌝ }
+    ensures { λ r. ⌜ (now (room .exit) ≡ wrote (now (room .entry)) at (decimal n)) × (r ≡ at + length (decimal n))
+        × (length (decimal n) ≤ 20) ⌝ }
 {
     let mut text = digits();
     let k = io::decimal(n, &mut text);
@@ -37,7 +39,8 @@ fn put_decimal(room: &mut [u8], at: usize, n: u64) -> usize
 // A number in decimal and the byte behind it.
 pub fn put_number(room: &mut [u8], at: usize, n: u64, behind: u8) -> usize
     requires { ⌜ at + 21 ≤ length (now room) ⌝ }
-    ensures { λ r. ⌜ (now (room .exit) ≡ wrote (now (room .entry)) at (decimal n ++ (behind ∷ []))) × (r ≡ at + length (decimal n ++ (behind ∷ []))) × (r ≤ at + 21) ⌝ }
+    ensures { λ r. ⌜ (now (room .exit) ≡ wrote (now (room .entry)) at (decimal n ++ (behind ∷ [])))
+        × (r ≡ at + length (decimal n ++ (behind ∷ []))) × (r ≤ at + 21) ⌝ }
 {
     let end = put_decimal(room, at, n);
     put(room, end, &[behind])

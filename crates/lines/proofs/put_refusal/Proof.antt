@@ -3,7 +3,7 @@ use mathlib.Core.Path.{ap, _∙_}
 use Prim.Native.Nat.{ℕ}
 use native.Mathlib.Omega.{arith}
 use denote.Ref.{now}
-use Rattle.file.specs.Answers.{numberOf}
+use Rattle.refusals.specs.Refusals.{numberOf}
 use Rattle.text.proofs.Laws.{same, both}
 use Rattle.lines.specs.Text.{refusedWord, pairLine, refusalLine}
 use borrow.Author.Needs.{needs}
