@@ -230,7 +230,7 @@ pub put-joined : (P : Profile) (s : List ℕ) (at : ℕ) (e : Edge) → e .sourc
 unfolding edgeBits edgeWidths flat putFields
 put-joined P s at e hs hl ht = put-three s at (P .states) (P .labels) (P .states) (e .source) (e .label) (e .target) hs hl ht
 
-widths-append : (P : Profile) (i k : ℕ) → edgeWidths P (i + k) ≡ edgeWidths P i ++ edgeWidths P k
+pub widths-append : (P : Profile) (i k : ℕ) → edgeWidths P (i + k) ≡ edgeWidths P i ++ edgeWidths P k
 unfolding edgeWidths
 widths-append P zero k = ap (edgeWidths P) (zero-add k)
 widths-append P (suc i) k = rw (suc-add i k) (ap {B = List ℕ} (λ r. P .states ∷ P .labels ∷ P .states ∷ r) (widths-append P i k))
