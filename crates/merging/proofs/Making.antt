@@ -7,7 +7,6 @@ use mathlib.Core.Option.{Option, none, some}
 use native.Mathlib.Omega.{arith}
 use lib.Dec.{eqb}
 use lib.ListN.{length, take, drop, List·getD-append}
-use lib.Seq.{take-append-seam}
 use Rattle.meaning.specs.Search.{least, tab, at}
 use Rattle.meaning.specs.SearchLaws.{at-tab, length-tab, tab-cong, count-max}
 use Rattle.meaning.specs.Classes as Classes
@@ -15,11 +14,12 @@ use Rattle.meaning.specs.Classes.{classes, number}
 use Rattle.meaning.specs.Traced.{opt, number-lt, name-is}
 use Rattle.meaning.specs.Filter.{Edge}
 use Rattle.meaning.specs.Reduced.{has, nameOf, mapped, class-edge, edge′, cell, row, listed}
-use Rattle.file.specs.declared.Profile.{Profile}
-use Rattle.file.specs.declared.Reading.{Reading}
-use Rattle.file.specs.Layout.{lengthOf}
-use Rattle.file.specs.Refusals.{laid}
-use Rattle.file.proofs.Tests.{Written, write-written}
+use Rattle.layout.specs.declared.Profile.{Profile}
+use Rattle.layout.specs.declared.Reading.{Reading}
+use Rattle.layout.specs.Layout.{lengthOf}
+use Rattle.refusals.specs.Refusals.{laid}
+use Rattle.refusals.proofs.Laws.{laid-front}
+use Rattle.files.specs.Tests.{Written, write-written}
 use Rattle.table.specs.Table.{Table, look}
 use Rattle.storing.specs.Stored.{led, rowEdge, stored, Storable}
 use Rattle.merging.specs.Merged.{Gathered, mergedBy, Foldable}
@@ -31,7 +31,7 @@ ordered n P = tab (classes n P) (nameOf n P)
 
 -- the values laid into a room are its first
 pub take-laid : (values room l : List ℕ) (k : ℕ) → l ≡ laid values room → k ≡ length values → take k l ≡ values
-take-laid values room l k e h = ap₂ (λ (i : ℕ) (xs : List ℕ). take i xs) h e ∙ take-append-seam values (drop (length values) room)
+take-laid values room l k e h = ap (take k) e ∙ laid-front values room k (sym h)
 
 row-cong : (f g : ℕ → Option ℕ) (s y : ℕ) → ((i : ℕ) → i < y → f i ≡ g i) → row f s y ≡ row g s y
 unfolding row

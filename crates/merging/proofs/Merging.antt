@@ -9,7 +9,7 @@ use native.Mathlib.Numerals.{add-one}
 use lib.Dec.{eqb, ltb}
 use lib.ListN.{length, set, take, drop, length-set, List·getD-append}
 use borrow.Author.Tests.{eqb-true, eqb-false, eq-eqb, ne-eqb, ltb-true, ltb-false}
-use Rattle.bits.proofs.Runs.{store-more}
+use Rattle.bits.proofs.Parts.{store-more}
 use Rattle.meaning.specs.Pick.{pick}
 use Rattle.meaning.specs.Search.{least, count, tab, at}
 use Rattle.meaning.specs.SearchLaws.{least-ok, least-is, least-below, least-none, least-empty, least-max, at-tab, length-tab, tab-snoc, count-hit, count-miss, at-take}
@@ -17,7 +17,7 @@ use Rattle.meaning.specs.Cases.{test, and-left, and-right, no-both}
 use Rattle.meaning.specs.Classes.{named, number}
 use Rattle.meaning.specs.Traced.{In, name-of}
 use Rattle.meaning.specs.Reduced.{nameOf, has}
-use Rattle.file.specs.Refusals.{laid}
+use Rattle.refusals.specs.Refusals.{laid}
 use Rattle.table.specs.Table.{Table, look, SameRows, or, given, Gave}
 use Rattle.merging.specs.Merged.{Names, Gathered}
 

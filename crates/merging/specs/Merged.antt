@@ -10,9 +10,9 @@ use Rattle.meaning.specs.Search.{least, at}
 use Rattle.meaning.specs.ClassesLaws.{Named}
 use Rattle.meaning.specs.Filter.{Filter}
 use Rattle.meaning.specs.Reduced.{has, mergedOver}
-use Rattle.file.specs.declared.Profile.{Profile}
-use Rattle.file.specs.declared.Reading.{Reading}
-use Rattle.file.specs.Code.{Usable}
+use Rattle.layout.specs.declared.Profile.{Profile}
+use Rattle.layout.specs.declared.Reading.{Reading}
+use Rattle.layout.specs.Code.{Usable}
 use Rattle.table.specs.Table.{Table, look, Rows, SameRows}
 use Rattle.storing.specs.Stored.{Packable}
 

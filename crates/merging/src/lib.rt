@@ -1,6 +1,6 @@
 // The filter of classes: numbered, its edges gathered in the table, and written as a file.
-use file::Profile;
-use file::Reading;
+use layout::Profile;
+use layout::Reading;
 ghost use mathlib.Core.Path.{_≡_};
 ghost use mathlib.Core.Option.{none};
 ghost use Prim.Native.Nat.{ℕ, _<_, _≤_};
@@ -8,8 +8,8 @@ ghost use lib.ListN.{length, take};
 ghost use Rattle.meaning.specs.Search.{tab, at};
 ghost use Rattle.meaning.specs.Classes.{classes, number};
 ghost use Rattle.meaning.specs.Reduced.{nameOf};
-ghost use Rattle.file.specs.Layout.{lengthOf, written};
-ghost use Rattle.file.specs.Refusals.{laid};
+ghost use Rattle.layout.specs.Layout.{lengthOf, written};
+ghost use Rattle.refusals.specs.Refusals.{laid};
 ghost use Rattle.table.specs.Table.{table, look, Rows};
 ghost use Rattle.merging.specs.Merged.{Names, Gathered, mergedBy, Foldable};
 

@@ -1,31 +1,34 @@
--- Laws of a table's rows: counted, and written one label or one row further. Assumes nothing.
+-- Laws of a table's rows: counted, and drawn one label or one row further. Assumes nothing.
 use Prim.Native.Nat.{ℕ, zero, suc, _+_, _*_, _-_, _≤_, _<_}
-use mathlib.Core.Path.{_≡_, refl, sym, ap, ap₂, _∙_, subst}
+use mathlib.Core.Path.{_≡_, refl, sym, ap, ap₂, _∙_}
 use mathlib.Core.Bool.{Bool, true, false, not, _&&_}
 use mathlib.Core.List.{List, [], _∷_, _++_, append-nil}
 use mathlib.Core.Option.{Option, none, some}
-use native.Mathlib.Nat.{mul-add}
 use native.Mathlib.Decide.{decLt, ℕ-discrete}
 use native.Mathlib.Omega.{arith}
 use native.Mathlib.Numerals.{add-one}
 use lib.Dec.{eqb}
 use lib.ListN.{length, length-append}
 use borrow.Author.Tests.{eq-eqb, ne-eqb, eqb-true, eqb-false}
-use Rattle.bits.specs.Bits.{putFields}
+use Rattle.pen.specs.declared.Pen.{Pen}
+use Rattle.pen.specs.Runs.{inked, placeOf, Ready}
+use Rattle.pen.proofs.Pens.{drawn-none, drawn-behind}
 use Rattle.meaning.specs.Search.{count, at}
 use Rattle.meaning.specs.SearchLaws.{count-cong}
 use Rattle.meaning.specs.Cases.{test, no-both}
 use Rattle.meaning.specs.Reduced.{has, cell, row, listed}
-use Rattle.meaning.specs.Listing.{cells, listed-length}
+use Rattle.meaning.specs.Listing.{cells, cells-max, listed-length}
 use Rattle.meaning.specs.Filter.{Edge}
-use Rattle.file.specs.declared.Profile.{Profile}
-use Rattle.file.specs.Layout.{edgeBits, edgeWidths, flat, putEdges}
-use Rattle.file.proofs.EdgeLists.{edges-behind}
+use Rattle.layout.specs.declared.Profile.{Profile}
+use Rattle.layout.specs.Layout.{edgeWidths, flat}
+use Rattle.layout.specs.Code.{Usable}
+use Rattle.layout.proofs.EdgeLists.{flat-append, widths-append, total-edges}
+use Rattle.layout.proofs.Bounds.{edges-high}
 use Rattle.sets.specs.Sets.{holds, Lowest}
 use Rattle.sets.proofs.Laws.{holds-none}
 use Rattle.table.specs.Table.{Table, look}
 use Rattle.table.proofs.Laws.{look-has}
-use Rattle.storing.specs.Stored.{led, rowEdge}
+use Rattle.storing.specs.Stored.{led, rowEdge, EdgesDrawn}
 
 pub led-none : (list : List ℕ) → led list none ≡ none
 unfolding led
@@ -56,6 +59,20 @@ pub listed-counted : (T : Table) (order list : List ℕ) (n : ℕ) → cells (λ
 listed-counted T order list n =
     cells-cong _ _ n 64 (λ k y h. sym (led-has list (look T (at order k) y) ∙ look-has T (at order k) y h)) ∙ sym (listed-length (rowEdge T order list) n 64)
 
+-- at most one edge a label
+cell-few : (k y : ℕ) (o : Option ℕ) → length (cell k y o) ≤ 1
+unfolding cell
+cell-few k y none = omega arith
+cell-few k y (some t) = omega arith
+
+row-few : (next : ℕ → Option ℕ) (k y : ℕ) → length (row next k y) ≤ y
+unfolding row
+row-few next k zero = omega arith
+row-few next k (suc y) = rw (length-append (row next k y) (cell k y (next y))) (omega (arith, row-few next k y, cell-few k y (next y)))
+
+listed-few : (next : ℕ → ℕ → Option ℕ) (n : ℕ) → length (listed next n 64) ≤ n * 64
+listed-few next n = rw (listed-length next n 64) (cells-max _ n 64)
+
 -- ---- labels without an edge
 
 row-skip : (next : ℕ → Option ℕ) (k y z : ℕ) → y ≤ z → ((j : ℕ) → y ≤ j → j < z → next j ≡ none) → row next k z ≡ row next k y
@@ -74,43 +91,43 @@ listed-short next (suc n) m l h =
     ap₂ (λ (a b : List Edge). a ++ b) (listed-short next n m l (λ k y i. h k y (omega arith)))
     (row-skip (next n) n m 64 l (λ j a b. h n j (omega arith) a))
 
--- ---- written
+-- ---- drawn
 
 pub listed-more : (next : ℕ → ℕ → Option ℕ) (k m : ℕ) → listed next (k + 1) m ≡ listed next k m ++ row (next k) k m
 unfolding listed
 listed-more next k m = rw (add-one k)
 
--- Edges written one behind another: the room, and the bit behind them.
-pub record Put (p : Profile) (part₀ : List ℕ) (bit : ℕ) (es : List Edge) (part : List ℕ) (place : ℕ) : Type 0 where
-  pub room : part ≡ putEdges p part₀ bit es
-  pub behind : place ≡ bit + edgeBits p * length es
+-- edges drawn behind edges
+pub edges-drawn : {s₀ : List ℕ} {at : ℕ} {s s′ : List ℕ} {pen pen′ : Pen} (p : Profile) (es fs : List Edge) → EdgesDrawn p s₀ at es s pen →
+    EdgesDrawn p (inked s pen) (placeOf pen) fs s′ pen′ → EdgesDrawn p s₀ at (es ++ fs) s′ pen′
+edges-drawn p es fs d e = rw (length-append es fs, widths-append p (length es) (length fs), flat-append es fs) (drawn-behind d e)
 
-pub put-none : (p : Profile) (part : List ℕ) (bit : ℕ) → Put p part bit [] part bit
-unfolding edgeWidths flat putFields
-put-none p part bit = record { room = refl; behind = omega arith }
+-- edges as many as a table can have end where a pen can go on
+edges-near : {p : Profile} {s₀ : List ℕ} {at : ℕ} {s : List ℕ} {pen : Pen} (es : List Edge) → Usable p → EdgesDrawn p s₀ at es s pen →
+    length es ≤ 65536 → placeOf pen ≤ at + 1572864
+edges-near {p} es ok d few = omega (arith, d .place, total-edges p (length es), edges-high p ok (length es) few)
 
-pub put-behind : (p : Profile) (part₀ : List ℕ) (bit : ℕ) (es fs : List Edge) (part part′ : List ℕ) (place place′ : ℕ) → Put p part₀ bit es part place →
-    part′ ≡ putEdges p part place fs → place′ ≡ place + edgeBits p * length fs → Put p part₀ bit (es ++ fs) part′ place′
-put-behind p part₀ bit es fs part part′ place place′ r e b = record {
-  room = e ∙ ap₂ (λ (s : List ℕ) (at : ℕ). putEdges p s at fs) (r .room) (r .behind) ∙ edges-behind p part₀ bit es fs;
-  behind = b ∙ ap (λ (k : ℕ). k + edgeBits p * length fs) (r .behind) ∙ rw (length-append es fs, mul-add (edgeBits p) (length es) (length fs)) (omega arith);
-}
+pub listed-near : {p : Profile} {s₀ : List ℕ} {at : ℕ} {s : List ℕ} {pen : Pen} (next : ℕ → ℕ → Option ℕ) (k : ℕ) → Usable p →
+    EdgesDrawn p s₀ at (listed next k 64) s pen → k ≤ 256 → placeOf pen ≤ at + 1572864
+listed-near next k ok d h = edges-near (listed next k 64) ok d (omega (arith, listed-few next k))
 
--- The row of a state with the labels `set`, written up to a label; `rest` holds the labels from there on.
-pub record RowUpTo (p : Profile) (next : ℕ → Option ℕ) (k set : ℕ) (part₀ : List ℕ) (bit : ℕ) (part : List ℕ) (place rest : ℕ) : Type 0 where
+-- The row of a state with the labels `set`, drawn up to a label; `rest` holds the labels from there on.
+pub record RowUpTo (p : Profile) (next : ℕ → Option ℕ) (k set : ℕ) (s₀ : List ℕ) (at : ℕ) (s : List ℕ) (pen : Pen) (rest : ℕ) : Type 0 where
   pub label : ℕ
   pub most : label ≤ 64
-  pub low : place ≤ bit + 24 * label
-  pub edges : Put p part₀ bit (row next k label) part place
+  pub edges : EdgesDrawn p s₀ at (row next k label) s pen
   pub gone : (j : ℕ) → j < label → holds rest j ≡ false
   pub left : (j : ℕ) → label ≤ j → holds rest j ≡ holds set j
 
-module _ (p : Profile) (next : ℕ → Option ℕ) (k set : ℕ) (part₀ : List ℕ) (bit : ℕ) where
-  pub row-begun : RowUpTo p next k set part₀ bit part₀ bit set
-  unfolding row
-  row-begun = record { label = 0; most = omega arith; low = omega arith; edges = put-none p part₀ bit; gone = λ j h. absurd (omega arith); left = λ j h. refl }
+pub row-begun : (p : Profile) (next : ℕ → Option ℕ) (k set : ℕ) (s : List ℕ) (pen : Pen) → Ready pen → RowUpTo p next k set (inked s pen) (placeOf pen) s pen set
+unfolding row edgeWidths flat
+row-begun p next k set s pen h = record { label = 0; most = omega arith; edges = drawn-none s pen h; gone = λ j l. absurd (omega arith); left = λ j l. refl }
 
-  module _ (part : List ℕ) (place rest : ℕ) (r : RowUpTo p next k set part₀ bit part place rest) (y : ℕ) (there : holds rest y ≡ true) where
+module _ {p : Profile} {next : ℕ → Option ℕ} {k set : ℕ} {s₀ : List ℕ} {at : ℕ} {s : List ℕ} {pen : Pen} {rest : ℕ} (r : RowUpTo p next k set s₀ at s pen rest) where
+  pub row-near : Usable p → placeOf pen ≤ at + 1572864
+  row-near ok = edges-near (row next k (r .label)) ok (r .edges) (omega (arith, row-few next k (r .label), r .most))
+
+  module _ (y : ℕ) (there : holds rest y ≡ true) where
     row-above : r .label ≤ y
     row-above = go (decLt y (r .label))
       where
@@ -121,22 +138,21 @@ module _ (p : Profile) (next : ℕ → Option ℕ) (k set : ℕ) (part₀ : List
     pub row-holds : holds set y ≡ true
     row-holds = sym (r .left y row-above) ∙ there
 
-  module _ (part : List ℕ) (place rest : ℕ) (r : RowUpTo p next k set part₀ bit part place rest) (only : (j : ℕ) → holds set j ≡ false → next j ≡ none) where
-    pub row-more : (y t : ℕ) → y < 64 → Lowest rest y → next y ≡ some t → (part′ : List ℕ) (place′ rest′ : ℕ)
-        → part′ ≡ putEdges p part place (record { source = k; label = y; target = t } ∷ []) → place′ ≡ place + edgeBits p → edgeBits p ≤ 24
-        → ((j : ℕ) → holds rest′ j ≡ (holds rest j && not (eqb y j))) → RowUpTo p next k set part₀ bit part′ place′ rest′
+  module _ (only : (j : ℕ) → holds set j ≡ false → next j ≡ none) where
+    pub row-more : (y t : ℕ) → y < 64 → Lowest rest y → next y ≡ some t → {s′ : List ℕ} {pen′ : Pen} {rest′ : ℕ}
+        → EdgesDrawn p (inked s pen) (placeOf pen) (record { source = k; label = y; target = t } ∷ []) s′ pen′
+        → ((j : ℕ) → holds rest′ j ≡ (holds rest j && not (eqb y j))) → RowUpTo p next k set s₀ at s′ pen′ rest′
     unfolding row cell
-    row-more y t high lowest is part′ place′ rest′ e b width less = record {
+    row-more y t high lowest is d less = record {
       label = suc y;
       most = omega arith;
-      low = omega (arith, r .low, above);
-      edges = rw is (put-behind p part₀ bit (row next k y) _ part part′ place place′ (subst (λ (es : List Edge). Put p part₀ bit es part place) (sym same) (r .edges)) e (b ∙ omega arith));
+      edges = rw is (edges-drawn p (row next k y) _ (rw same (r .edges)) d);
       gone = λ j h. less j ∙ go j h (ℕ-discrete y j);
       left = λ j h. less j ∙ rw (ne-eqb y j (λ z. omega arith), r .left j (omega (arith, above))) (and-true (holds set j));
     }
       where
         above : r .label ≤ y
-        above = row-above part place rest r y (lowest .there)
+        above = row-above y (lowest .there)
 
         and-true : (b : Bool) → (b && true) ≡ b
         and-true true = refl
@@ -153,8 +169,8 @@ module _ (p : Profile) (next : ℕ → Option ℕ) (k set : ℕ) (part₀ : List
             and-false false = refl
         go j h (no z) = rw (lowest .below j (omega arith))
 
-    pub row-ended : rest ≡ 0 → Put p part₀ bit (row next k 64) part place
-    row-ended e = subst (λ (es : List Edge). Put p part₀ bit es part place) (sym all) (r .edges)
+    pub row-ended : rest ≡ 0 → EdgesDrawn p s₀ at (row next k 64) s pen
+    row-ended e = rw all (r .edges)
       where
         all : row next k 64 ≡ row next k (r .label)
         all = row-skip next k (r .label) 64 (r .most) (λ j a b. only j (sym (r .left j a) ∙ ap (λ (x : ℕ). holds x j) e ∙ holds-none j))

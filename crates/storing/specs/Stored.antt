@@ -9,11 +9,13 @@ use lib.ListN.{length}
 use Rattle.meaning.specs.Search.{at}
 use Rattle.meaning.specs.Filter.{Edge, Filter}
 use Rattle.meaning.specs.Reduced.{listed}
-use Rattle.file.specs.declared.Profile.{Profile}
-use Rattle.file.specs.Layout.{lengthOf}
-use Rattle.file.specs.Answers.{accepted}
-use Rattle.file.specs.Refusals.{writeOf}
-use Rattle.file.specs.Code.{Usable}
+use Rattle.pen.specs.declared.Pen.{Pen}
+use Rattle.pen.specs.Runs.{placeOf, Ready, Drawn}
+use Rattle.refusals.specs.Refusals.{accepted}
+use Rattle.layout.specs.declared.Profile.{Profile}
+use Rattle.layout.specs.Layout.{edgeWidths, flat, lengthOf}
+use Rattle.layout.specs.Code.{Usable}
+use Rattle.files.specs.Files.{writeOf}
 use Rattle.table.specs.Table.{Table, look, Rows}
 
 -- An edge led to the number of its target.
@@ -33,6 +35,10 @@ edgesOf T order list m = listed (rowEdge T order list) (length order) m
 abbrev pub stored : Table → List ℕ → List ℕ → List ℕ → ℕ → ℕ → Filter
 stored T order list colours m start = record { colours = colours; labels = m; start = start; edges = edgesOf T order list m }
 
+-- s₀ with the edges written from bit `at` on is what s and the pen hold together.
+abbrev pub EdgesDrawn : Profile → List ℕ → ℕ → List Edge → List ℕ → Pen → Type 0
+EdgesDrawn p s₀ at es s pen = Drawn s₀ at (edgeWidths p (length es)) (flat es) s pen
+
 -- Pack would accept the filter for a room of so many bytes. The edges are no list of bytes, so that its test of whole edges is
 -- passed.
 abbrev pub Packable : Profile → Filter → ℕ → Type 0
@@ -46,6 +52,13 @@ pub record Storable (p : Profile) (T : Table) (order list : List ℕ) (limit : �
   pub label : (k y t : ℕ) → k < length order → look T (at order k) y ≡ some t → y < limit
   pub listed : (k y t : ℕ) → k < length order → look T (at order k) y ≡ some t → t < length list
   pub target : (k y t : ℕ) → k < length order → look T (at order k) y ≡ some t → at list t < 2 ^ p .states
+
+-- What is asked for drawing the row of state k behind what a pen holds.
+pub record Drawable (p : Profile) (T : Table) (order list : List ℕ) (k : ℕ) (pen : Pen) : Type 0 where
+  pub rows : Storable p T order list (2 ^ p .labels)
+  pub state : k < length order
+  pub ready : Ready pen
+  pub near : placeOf pen ≤ 2 ^ 32
 
 -- The rows, with a colour each, are a file that a room of so many bytes holds.
 pub record Fileable (p : Profile) (T : Table) (order list colours : List ℕ) (m start room : ℕ) : Type 0 where

@@ -1,21 +1,19 @@
 // A table written as a file: its rows in a given order, their targets led by a list.
-use bits::pen;
-use bits::pen::Pen;
-use file::Profile;
-use file::edge::Edge;
-use file::layout;
+use layout::Profile;
+use layout::edge::Edge;
+use pen::Pen;
 ghost use mathlib.Core.Path.{_≡_};
-ghost use Prim.Native.Nat.{ℕ, _+_, _*_, _/_, _<_, _≤_, _^_};
+ghost use Prim.Native.Nat.{ℕ, _/_, _<_, _≤_, _^_};
 ghost use lib.ListN.{length};
 ghost use Rattle.meaning.specs.Search.{at};
 ghost use Rattle.meaning.specs.Reduced.{row};
 ghost use Rattle.meaning.specs.Listing.{cells};
-ghost use Rattle.bits.specs.Bits.{inked, placeOf, Ready};
-ghost use Rattle.file.specs.Layout.{edgeBits, putEdges, lengthOf, written};
-ghost use Rattle.file.specs.Refusals.{laid};
+ghost use Rattle.pen.specs.Runs.{inked, placeOf};
+ghost use Rattle.layout.specs.Layout.{putEdges, lengthOf, written};
+ghost use Rattle.refusals.specs.Refusals.{laid};
 ghost use Rattle.sets.specs.Sets.{holds};
 ghost use Rattle.table.specs.Table.{table};
-ghost use Rattle.storing.specs.Stored.{rowEdge, edgesOf, stored, Storable, Fileable};
+ghost use Rattle.storing.specs.Stored.{rowEdge, edgesOf, stored, EdgesDrawn, Storable, Drawable, Fileable};
 
 // How many edges the rows have.
 fn edge_count(labels: &[u64], order: &[u16]) -> usize
@@ -43,13 +41,10 @@ fn put_row(
     k: usize,
     list: &[u16],
 ) -> Pen
-    requires { ⌜ Storable p (table (now targets) (now labels)) (now order) (now list) (2 ^ p .labels) ⌝ }
-    requires { ⌜ (k < length (now order)) × Ready begun × (placeOf begun ≤ 2 ^ 32) ⌝ }
-    ensures edges { λ r. ⌜ inked (now (part .exit)) r ≡ putEdges p (inked (now (part .entry)) begun) (placeOf begun)
-        (row (rowEdge (table (now (targets .entry)) (now (labels .entry))) (now (order .entry)) (now (list .entry)) k) k 64) ⌝ }
-    ensures behind { λ r. ⌜ placeOf r ≡ placeOf begun + edgeBits p * length
-        (row (rowEdge (table (now (targets .entry)) (now (labels .entry))) (now (order .entry)) (now (list .entry)) k) k 64) ⌝ }
-    ensures ready { λ r. ⌜ (placeOf r ≤ placeOf begun + 1536) × Ready r ⌝ }
+    requires { ⌜ Drawable p (table (now targets) (now labels)) (now order) (now list) k begun ⌝ }
+    ensures { λ r. ⌜ EdgesDrawn p (inked (now (part .entry)) begun) (placeOf begun)
+        (row (rowEdge (table (now (targets .entry)) (now (labels .entry))) (now (order .entry)) (now (list .entry)) k) k 64)
+        (now (part .exit)) r ⌝ }
 {
     let s = arrays::wide(order[k]);
     let mut pen = begun;
@@ -62,7 +57,7 @@ fn put_row(
             label: y,
             target: arrays::wide(list[to]),
         };
-        pen = file::edge::push(p, part, pen, edge);
+        pen = layout::edge::push(p, part, pen, edge);
         rest = sets::without_lowest(rest);
     }
     pen
@@ -133,8 +128,8 @@ pub fn write(
 {
     let k = order.len();
     let e = edge_count(labels, order);
-    file::header::put(p, room, k, m, start, e);
-    bits::put_run(room, layout::header_bits(p), p.colour, colours);
+    layout::header::put(p, room, k, m, start, e);
+    pen::put_run(room, layout::header_bits(p), p.colour, colours);
     put_edges(
         p,
         room,
@@ -144,6 +139,6 @@ pub fn write(
         order,
         list,
     );
-    file::fill(p, room, k, e);
+    layout::fill(p, room, k, e);
     layout::bytes_for(layout::file_bits(p, k, e))
 }

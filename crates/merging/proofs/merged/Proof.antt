@@ -8,8 +8,8 @@ use denote.Ref.{now}
 use lib.ListN.{length, take}
 use Rattle.meaning.specs.SearchLaws.{length-tab}
 use Rattle.meaning.specs.Filter.{Filter}
-use Rattle.file.specs.Layout.{lengthOf, written}
-use Rattle.file.specs.Refusals.{laid}
+use Rattle.layout.specs.Layout.{lengthOf, written}
+use Rattle.refusals.specs.Refusals.{laid}
 use Rattle.table.specs.Table.{Table, table}
 use Rattle.storing.specs.Stored.{stored, Packable}
 use Rattle.merging.specs.Merged.{mergedBy}

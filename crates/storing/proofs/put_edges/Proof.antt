@@ -6,9 +6,10 @@ use native.Mathlib.Omega.{arith}
 use borrow.Author.Needs.{needs}
 use denote.Ref.{now}
 use lib.ListN.{length}
-use Rattle.bits.proofs.Parts.{puts-drop, lent-tail, back-tail}
+use Rattle.pen.proofs.Parts.{puts-drop}
+use Rattle.bits.proofs.Parts.{lent-tail, back-tail}
 use Rattle.meaning.specs.Filter.{Edge}
-use Rattle.file.specs.Layout.{edgeWidths, flat, putEdges}
+use Rattle.layout.specs.Layout.{edgeWidths, flat, putEdges}
 use Rattle.table.specs.Table.{table}
 use Rattle.storing.specs.Stored.{edgesOf}
 use Rattle.storing.proofs.put_edges.Statement.{statement}
@@ -17,7 +18,7 @@ use Rattle.storing.proofs.put_edges.Tie as tie
 returns : tie.Need-returns
 returns c =
     let put = c .before .before in
-    let start = c .before .before .before .before .before .before .before .before .before in
+    let start = put .before .before .before .before .before .before .before in
     let a = start .args in
     let room = now (a .room) in
     let from = a .bit / 8 in

@@ -1,69 +1,65 @@
 -- `storing::put_rows` meets its contract. The invariant: the rows so far are written or held. Assumes nothing.
-use mathlib.Core.Path.{_≡_, refl, sym, ap, _∙_, subst}
-use mathlib.Core.List.{List}
-use Prim.Native.Nat.{ℕ, _+_, _*_, _-_, _≤_}
+use mathlib.Core.Path.{_≡_, _∙_}
+use Prim.Native.Nat.{_-_, _≤_}
 use native.Mathlib.Nat.{le-antisymm}
 use native.Mathlib.Omega.{arith}
 use borrow.Author.Needs.{needs}
 use denote.Ref.{now}
 use lib.ListN.{length}
-use Rattle.bits.specs.Bits.{inked, placeOf, Ready}
-use Rattle.meaning.specs.Filter.{Edge}
+use Rattle.pen.proofs.Pens.{drawn-length}
 use Rattle.meaning.specs.Reduced.{listed}
-use Rattle.file.specs.Layout.{putEdges}
-use Rattle.file.proofs.Bounds.{states-pow}
+use Rattle.layout.specs.Layout.{edgeWidths, flat}
+use Rattle.layout.proofs.Bounds.{states-pow}
 use Rattle.table.specs.Table.{table}
-use Rattle.storing.specs.Stored.{rowEdge}
-use Rattle.storing.proofs.Laws.{listed-more, Put, put-none, put-behind}
+use Rattle.storing.specs.Stored.{rowEdge, EdgesDrawn}
+use Rattle.storing.proofs.Laws.{listed-more, edges-drawn, listed-near}
 use Rattle.storing.proofs.put_rows.Statement.{statement}
 use Rattle.storing.proofs.put_rows.Tie as tie
 
 abbrev Inv-loop : tie.InvT-loop
 Inv-loop p part₀ bit targets labels order list pen₀ k₀ part pen k =
-    (k ≤ length order) × (length part ≡ length part₀) × Ready pen × (placeOf pen ≤ bit + 1536 * k)
-    × Put p part₀ bit (listed (rowEdge (table targets labels) order list) k 64) (inked part pen) (placeOf pen)
+    (k ≤ length order) × EdgesDrawn p part₀ bit (listed (rowEdge (table targets labels) order list) k 64) part pen
 
 abbrev μ-loop : tie.MeasureT-loop
 μ-loop p part₀ bit targets labels order list pen₀ k₀ part pen k = length order - k
 
 loop-holds : tie.Need-loop-holds Inv-loop μ-loop
-unfolding listed
-loop-holds c =
-    let is = c .begin .ensures in
-    let a = c .before .before .before .before .before .before .before .args in
-    (omega arith, refl, is .2, omega (arith, is .1), rw (is .0, is .1) (put-none (a .p) (now (a .part)) (a .bit)))
+unfolding listed edgeWidths flat
+loop-holds c = (omega arith, c .begin .ensures)
 
 put-row-requires : tie.Need-put-row-requires Inv-loop μ-loop
 put-row-requires c κs =
     let in-loop = c .before in
     let loop = in-loop .before .loop in
-    let pre = c .before .before .before .before .before .before .before .before .before .before .pre in
-    let few = states-pow _ (pre .0 .usable) in
-    (pre .0, (in-loop .loop-test .taken, loop .inv .2, omega (arith, loop .inv .3, loop .inv .0, pre .0 .states, few, pre .1)))
+    let pre = in-loop .before .before .before .before .before .before .before .before .before .pre in
+    let few : loop .k ≤ 256 = omega (arith, loop .inv .0, pre .0 .states, states-pow _ (pre .0 .usable)) in
+    record {
+      rows = pre .0;
+      state = in-loop .loop-test .taken;
+      ready = loop .inv .1 .ready;
+      near = omega (arith, listed-near _ (loop .k) (pre .0 .usable) (loop .inv .1) few, pre .1);
+    }
 
 add-k : tie.Need-add-k Inv-loop μ-loop
-add-k c = let can = c .before .before .before .before .before .before .before .before .before .before .before .before .before .pre .0 in omega (arith, c .before .before .before .before .loop-test .taken, can .states, states-pow _ (can .usable))
+add-k c =
+    let in-loop = c .before .before .before .before in
+    let can = in-loop .before .before .before .before .before .before .before .before .before .pre .0 in
+    omega (arith, in-loop .loop-test .taken, can .states, states-pow _ (can .usable))
 
 loop-again : tie.Need-loop-again Inv-loop μ-loop
 loop-again c =
-    let put = c .before .before .put-row in
-    let loop = c .before .before .before .before .before .loop in
-    let a = c .before .before .before .before .before .before .before .before .before .before .before .before .before .args in (
-      omega (arith, c .before .before .before .before .loop-test .taken),
-      put .kept .1 .0 ∙ loop .inv .1,
-      put .ensures .1 .1 .1,
-      omega (arith, put .ensures .1 .1 .0, loop .inv .3),
-      subst (λ (es : List Edge). Put (a .p) (now (a .part)) (a .bit) es (inked (put .last .1 .0) (put .result)) (placeOf (put .result))) (sym (listed-more _ (loop .k) 64))
-          (put-behind _ _ _ _ _ _ _ _ _ (loop .inv .4) (put .ensures .0) (put .ensures .1 .0)),
-    )
+    let in-loop = c .before .before .before .before in
+    let loop = in-loop .before .loop in
+    (omega (arith, in-loop .loop-test .taken), rw (listed-more _ (loop .k) 64) (edges-drawn _ _ _ (loop .inv .1) (c .before .before .put-row .ensures)))
 
 returns : tie.Need-returns Inv-loop μ-loop
 returns c =
-    let loop = c .before .before .before .before .before .loop in
-    let a = c .before .before .before .before .before .before .before .before .before .before .before .before .before .args in
-    let all : loop .k ≡ length (now (a .order)) = le-antisymm (loop .inv .0) (c .before .before .before .before .loop-test .left) in
-    c .before .before .finish .ensures ∙ loop .inv .4 .room
-    ∙ ap (λ (k : ℕ). putEdges (a .p) (now (a .part)) (a .bit) (listed (rowEdge (table (now (a .targets)) (now (a .labels))) (now (a .order)) (now (a .list))) k 64)) all
+    let done = c .before .before in
+    let left = done .before .before in
+    let loop = left .before .loop in
+    let a = left .before .before .before .before .before .before .before .before .before .args in
+    let all : loop .k ≡ length (now (a .order)) = le-antisymm (loop .inv .0) (left .loop-test .left) in
+    done .finish .ensures ∙ rw all at (loop .inv .1 .ink)
 
 pub put-rows-spec : {M : Type 1} → statement M
 put-rows-spec =
@@ -77,6 +73,6 @@ put-rows-spec =
     add-k
     (λ c. search needs)
     loop-again
-    (λ c κs. c .before .before .loop .inv .2)
-    (λ c. c .before .before .finish .kept .0 ∙ c .before .before .before .before .before .loop .inv .1)
+    (λ c κs. c .before .before .loop .inv .1 .ready)
+    (λ c. c .before .before .finish .kept .0 ∙ drawn-length (c .before .before .before .before .before .loop .inv .1))
     returns)

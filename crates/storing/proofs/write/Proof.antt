@@ -3,20 +3,22 @@
 use mathlib.Core.Path.{_≡_, sym, ap, ap₂, _∙_}
 use mathlib.Core.Bool.{true}
 use mathlib.Core.List.{List, _∷_, []}
-use Prim.Native.Nat.{ℕ, _-_, _≤_}
+use Prim.Native.Nat.{ℕ, _≤_}
 use native.Mathlib.Nat.{mul-comm}
 use native.Mathlib.Omega.{arith}
 use borrow.Author.Needs.{needs}
 use denote.Ref.{now}
 use lib.ListN.{length, replicate}
-use Rattle.bits.specs.Bits.{Bytes, putField, putFields}
+use Rattle.bits.specs.Bits.{Bytes, putField}
+use Rattle.pen.specs.Runs.{putFields}
 use Rattle.meaning.specs.Search.{at}
-use Rattle.meaning.specs.Filter.{Edge, Filter}
+use Rattle.meaning.specs.Filter.{Filter}
 use Rattle.meaning.specs.Traced.{opt}
-use Rattle.file.specs.Layout.{headerBits, edgesBegin, fileBits, bytesFor, fileLength, fillBits, lengthOf, putEdges}
-use Rattle.file.proofs.Bounds.{colours-high}
-use Rattle.file.proofs.Tests.{Written, write-written}
-use Rattle.file.proofs.Files.{header-fit, colours-fit, states≤256, written-laid}
+use Rattle.layout.specs.Layout.{headerWidths, headerValues, headerBits, edgesBegin, fileBits, bytesFor, fileLength, fillBits, lengthOf, putEdges}
+use Rattle.layout.specs.Code.{Usable}
+use Rattle.layout.proofs.Bounds.{colours-high}
+use Rattle.files.specs.Tests.{Written, write-written}
+use Rattle.files.specs.Written.{header-fit, colours-fit, states≤256, written-laid}
 use Rattle.table.specs.Table.{Table, table, look}
 use Rattle.storing.specs.Stored.{led, edgesOf, stored}
 use Rattle.storing.proofs.Laws.{led-none, listed-counted, listed-short}
@@ -46,90 +48,113 @@ short c = listed-short _ (length (now (c .args .order))) (c .args .m) (c .pre .l
     (λ e. ap (led (now (c .args .list))) e ∙ led-none (now (c .args .list)))
     (λ t e. absurd (omega (arith, c .pre .rows .label k y t h e)))
 
+abbrev start₁ : tie.After-edge-count → tie.Start
+start₁ c = c .before .before .before .before .before .before .before
+
 -- the edges are as many as were counted
-counted : (c : tie.After-edge-count) → c .edge-count .result ≡ length (F (c .before .before .before .before .before .before .before) .edges)
+counted : (c : tie.After-edge-count) → c .edge-count .result ≡ length (F (start₁ c) .edges)
 counted c =
-    let start = c .before .before .before .before .before .before .before in
-    c .edge-count .ensures .1 ∙ listed-counted (T start) (now (start .args .order)) (now (start .args .list)) _ ∙ ap length (short start)
+    let a = start₁ c .args in
+    c .edge-count .ensures .1 ∙ listed-counted (T (start₁ c)) (now (a .order)) (now (a .list)) _ ∙ ap length (short (start₁ c))
 
 -- header, colours, edges and filling of n states with e edges
 abbrev all : (c : tie.Start) → ℕ → ℕ → List ℕ
 all c n e =
     let p = c .args .p in
-    let header = putFields (now (c .args .room)) 0 (p .states ∷ p .labels ∷ p .start ∷ p .edges ∷ []) ((n - 1) ∷ (c .args .m - 1) ∷ c .args .start ∷ e ∷ []) in
+    let header = putFields (now (c .args .room)) 0 (headerWidths p) (headerValues n (c .args .m) (c .args .start) e) in
     let coloured = putFields header (headerBits p) (replicate n (p .colour)) (now (c .args .colours)) in
     putField (putEdges p coloured (edgesBegin p n) (F c .edges)) (fileBits p n e) (fillBits p n e) 0
 
 edge-count-requires : tie.Need-edge-count-requires
-edge-count-requires c κs = let start = c .before .before .before .before .before .before in (count≤256 start, λ k h. omega (arith, start .pre .rows .rows k h .labels-long))
+edge-count-requires c κs =
+    let start = c .before .before .before .before .before .before in
+    (count≤256 start, λ k h. omega (arith, start .pre .rows .rows k h .labels-long))
 
 put-requires : tie.Need-put-requires
 put-requires c κs =
-    let start = c .before .before .before .before .before .before .before .before in
+    let start = start₁ (c .before) in
     let w = passed start .writable in
     let ok = start .pre .rows .usable in
-    (ok, rw (count start, ← counted (c .before)) at (header-fit (start .args .p) ok (F start) w), rw (count start) at (w .states-low), w .labels-low)
+    record {
+      usable = ok;
+      fit = rw (count start, ← counted (c .before)) at (header-fit (start .args .p) ok (F start) w);
+      states = rw (count start) at (w .states-low);
+      labels = w .labels-low;
+    }
 
 put-run-requires : tie.Need-put-run-requires
 put-run-requires c κs =
-    let start = c .before .before .before .before .before .before .before .before .before .before .before .before .before in
+    let start = start₁ (c .before .before .before .before .before .before) in
     let p = start .args .p in
     let ok = start .pre .rows .usable in
     let n = length (now (start .args .colours)) in
-    (ok .colour≤, omega (arith, c .header-bits .ensures .1, mul-comm n (p .colour), colours-high p ok n (omega (arith, count start, count≤256 start))), colours-fit p ok (F start) (passed start .writable))
+    let high = colours-high p ok n (omega (arith, count start, count≤256 start)) in
+    record {
+      narrow = ok .colour≤;
+      near = omega (arith, c .header-bits .ensures .1, mul-comm n (p .colour), high);
+      small = colours-fit p ok (F start) (passed start .writable);
+    }
 
 edges-begin-requires : tie.Need-edges-begin-requires
-edges-begin-requires c κs = let start = c .before .before .before .before .before .before .before .before .before .before .before .before .before .before .before .before .before in (start .pre .rows .usable, count≤256 start)
+edges-begin-requires c κs =
+    let start = start₁ (c .before .before .before .before .before .before .before .before .before .before) in
+    (start .pre .rows .usable, count≤256 start)
 
 put-edges-requires : tie.Need-put-edges-requires
 unfolding lengthOf fileLength bytesFor fileBits
 put-edges-requires c κs =
-    let start = c .before .before .before .before .before .before .before .before .before .before .before .before .before .before .before .before .before .before in
+    let run = c .before .before .before .before in
+    let put = run .before .before .before .before .before in
+    let start = start₁ (put .before .before) in
     let can = start .pre .rows in
-    let high = passed start .writable .labels-high in
-    let roomy = rw (count start) at (passed start .roomy) in
-    let same : length (c .before .before .before .before .put-run .last .0) ≡ length (now (start .args .room)) = c .before .before .before .before .put-run .kept .0 ∙ c .before .before .before .before .before .before .before .before .before .put .kept .1 .0 in (
+    let same : length (run .put-run .last .0) ≡ length (now (start .args .room)) = run .put-run .kept .0 ∙ put .put .kept .1 .0 in (
       record {
         usable = can .usable;
         states = can .states;
         rows = can .rows;
-        label = λ k y t h e. omega (arith, can .label k y t h e, high);
+        label = λ k y t h e. omega (arith, can .label k y t h e, passed start .writable .labels-high);
         listed = can .listed;
         target = can .target;
       },
-      omega (arith, same, c .edges-begin .ensures .0, roomy),
+      omega (arith, same, c .edges-begin .ensures .0, rw (count start) at (passed start .roomy)),
     )
 
+-- so many states and edges make no file too long
+small : (c : tie.After-edge-count) → Usable (start₁ c .args .p) × (length (now (start₁ c .args .order)) ≤ 256) × (c .edge-count .result ≤ 65536)
+small c = (start₁ c .pre .rows .usable, count≤256 (start₁ c), omega (arith, c .edge-count .ensures .0))
+
 fill-requires : tie.Need-fill-requires
-fill-requires c κs = let start = c .before .before .before .before .before .before .before .before .before .before .before .before .before .before .before .before .before .before .before .before .before .before in (start .pre .rows .usable, count≤256 start, omega (arith, c .before .before .before .before .before .before .before .before .before .before .before .before .before .before .before .edge-count .ensures .0))
+fill-requires c κs = small (c .before .before .before .before .before .before .before .before .before .before .before .before .before .before .before)
 
 file-bits-requires : tie.Need-file-bits-requires
-file-bits-requires c κs = let start = c .before .before .before .before .before .before .before .before .before .before .before .before .before .before .before .before .before .before .before .before .before .before .before .before .before in (start .pre .rows .usable, count≤256 start, omega (arith, c .before .before .before .before .before .before .before .before .before .before .before .before .before .before .before .before .before .before .edge-count .ensures .0))
+file-bits-requires c κs = small (c .before .before .before .before .before .before .before .before .before .before .before .before .before .before .before .before .before .before)
 
 returns : tie.Need-returns
 unfolding lengthOf fileLength
 returns c =
-    let start = c .before .before .before .before .before .before .before .before .before .before .before .before .before .before .before .before .before .before .before .before .before .before .before .before .before .before .before in
-    let a = start .args in
-    let p = a .p in
-    let room = now (a .room) in
-    let colours = now (a .colours) in
-    let n = length (now (a .order)) in
-    let e = c .before .before .before .before .before .before .before .before .before .before .before .before .before .before .before .before .before .before .before .before .edge-count .result in
-    let header : List ℕ = putFields room 0 (p .states ∷ p .labels ∷ p .start ∷ p .edges ∷ []) ((n - 1) ∷ (a .m - 1) ∷ a .start ∷ e ∷ []) in
-    let bytes : Bytes room = λ i. omega (arith, c .before .before .before .before .before .before .before .before .before .before .before .before .before .before .before .before .before .before .before .before .before .before .before .before .before .before .slice-known .given i) in
-    let written : c .before .before .before .before .fill .last .1 .0 ≡ all start n e =
-    c .before .before .before .before .fill .ensures
+    let fill = c .before .before .before .before in
+    let edges = fill .before .before .before .before in
+    let begin = edges .before in
+    let run = begin .before .before .before .before in
+    let header = run .before in
+    let put = header .before .before .before .before in
+    let counting = put .before .before in
+    let start = start₁ counting in
+    let p = start .args .p in
+    let room = now (start .args .room) in
+    let colours = now (start .args .colours) in
+    let n = length (now (start .args .order)) in
+    let e = counting .edge-count .result in
+    let bytes : Bytes room = λ i. omega (arith, counting .before .before .before .before .before .before .slice-known .given i) in
+    let written : fill .fill .last .1 .0 ≡ all start n e =
+    fill .fill .ensures
     ∙ ap (λ (s : List ℕ). putField s (fileBits p n e) (fillBits p n e) 0)
-    (c .before .before .before .before .before .before .before .before .put-edges .ensures ∙ ap (λ (es : List Edge). putEdges p (c .before .before .before .before .before .before .before .before .before .before .before .before .before .put-run .last .0) (c .before .before .before .before .before .before .before .before .before .edges-begin .result) es) (short start)
-    ∙ ap₂ (λ (s : List ℕ) (at : ℕ). putEdges p s at (F start .edges))
-    (c .before .before .before .before .before .before .before .before .before .before .before .before .before .put-run .ensures
-    ∙ ap₂ (λ (s : List ℕ) (at : ℕ). putFields s at (replicate (length colours) (p .colour)) colours) (c .before .before .before .before .before .before .before .before .before .before .before .before .before .before .before .before .before .before .put .ensures) (c .before .before .before .before .before .before .before .before .before .before .before .before .before .before .header-bits .ensures .0)
-    ∙ ap (λ (k : ℕ). putFields header (headerBits p) (replicate k (p .colour)) colours) (count start))
-    (c .before .before .before .before .before .before .before .before .before .edges-begin .ensures .0)) in
-    let as-filter = ap₂ (all start) (sym (count start)) (counted (c .before .before .before .before .before .before .before .before .before .before .before .before .before .before .before .before .before .before .before .before)) in (
-      written ∙ as-filter ∙ written-laid p (start .pre .rows .usable) (F start) (passed start .writable) room bytes (passed start .roomy),
-      c .bytes-for .ensures ∙ ap bytesFor (c .before .file-bits .ensures .0 ∙ ap₂ (fileBits p) (sym (count start)) (counted (c .before .before .before .before .before .before .before .before .before .before .before .before .before .before .before .before .before .before .before .before))),
+    (edges .put-edges .ensures
+    ∙ rw (short start, begin .edges-begin .ensures .0, run .put-run .ensures, put .put .ensures, header .header-bits .ensures .0, count start)) in (
+      written
+          ∙ ap₂ (all start) (sym (count start)) (counted counting)
+          ∙ written-laid p (start .pre .rows .usable) (F start) (passed start .writable) room bytes (passed start .roomy),
+      c .bytes-for .ensures ∙ ap bytesFor (c .before .file-bits .ensures .0 ∙ ap₂ (fileBits p) (sym (count start)) (counted counting)),
     )
 
 pub write-spec : {M : Type 1} → statement M
