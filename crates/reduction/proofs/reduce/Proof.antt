@@ -1,87 +1,65 @@
 -- `reduction::reduce` meets its contract: whichever table a file's states take, it is long enough. Assumes nothing.
 use native.Mathlib.Omega.{arith}
-use Rattle.loading.proofs.Laws.{serves}
 use borrow.Author.Needs.{needs}
+use lib.Dec.{lit≤}
+use Rattle.layout.proofs.Bounds.{large-usable}
+use Rattle.loading.proofs.Laws.{serves}
+use Rattle.layout.specs.Layout.{large}
+use Rattle.layout.specs.Contents.{statesIn}
+use denote.Ref.{now}
+use mathlib.Core.Path.{_≡_}
 use Rattle.reduction.proofs.reduce.Statement.{statement}
 use Rattle.reduction.proofs.reduce.Tie as tie
 
 states-requires : tie.Need-states-requires
-states-requires c κs = search needs
+states-requires c κs = rw (c .large .ensures) large-usable
 
-small-requires : tie.Need-small-requires
-small-requires c κs = search needs
-
-slice-aggregate-reduce-with : tie.Need-slice-aggregate-reduce-with
-slice-aggregate-reduce-with c = search needs
+-- the states that the file states, by the large widths
+states-are : (c : tie.After-states) → c .states .result ≡ statesIn large (now (c .before .before .before .before .before .args .file))
+states-are c = rw (c .before .large .ensures) at (c .states .ensures .0)
 
 reduce-with-requires : tie.Need-reduce-with-requires
-reduce-with-requires c κs = serves _ _ 1024 (c .before .before .before .small .ensures) (omega arith)
-
-same-length : tie.Need-same-length
-same-length c = search needs
-
-same-length-2 : tie.Need-same-length-2
-same-length-2 c = search needs
-
-returns : tie.Need-returns
-returns c = search needs
-
-middle-requires : tie.Need-middle-requires
-middle-requires c κs = search needs
-
-slice-aggregate-reduce-with-2 : tie.Need-slice-aggregate-reduce-with-2
-slice-aggregate-reduce-with-2 c = search needs
+reduce-with-requires c κs =
+    let made = c .before .before .before .before in
+    serves _ _ _ _ 16 large-usable (lit≤ tt) (made .before .small-targets .ensures) (made .small-labels .ensures) (omega (arith, states-are (made .before .before .before), made .before .before .if1 .taken))
 
 reduce-with-requires-2 : tie.Need-reduce-with-requires-2
-reduce-with-requires-2 c κs = serves _ _ 4096 (c .before .before .before .middle .ensures) (omega arith)
-
-same-length-3 : tie.Need-same-length-3
-same-length-3 c = search needs
-
-same-length-4 : tie.Need-same-length-4
-same-length-4 c = search needs
-
-returns-2 : tie.Need-returns-2
-returns-2 c = search needs
-
-whole-requires : tie.Need-whole-requires
-whole-requires c κs = search needs
-
-slice-aggregate-reduce-with-3 : tie.Need-slice-aggregate-reduce-with-3
-slice-aggregate-reduce-with-3 c = search needs
+reduce-with-requires-2 c κs =
+    let made = c .before .before .before .before in
+    serves _ _ _ _ 64 large-usable (lit≤ tt) (made .before .middle-targets .ensures) (made .middle-labels .ensures) (omega (arith, states-are (made .before .before .before .before), made .before .before .if2 .taken))
 
 reduce-with-requires-3 : tie.Need-reduce-with-requires-3
-reduce-with-requires-3 c κs = serves _ _ 16384 (c .before .before .before .whole .ensures) (omega arith)
-
-same-length-5 : tie.Need-same-length-5
-same-length-5 c = search needs
-
-same-length-6 : tie.Need-same-length-6
-same-length-6 c = search needs
-
-returns-3 : tie.Need-returns-3
-returns-3 c = search needs
+reduce-with-requires-3 c κs =
+    let made = c .before .before .before .before in
+    serves _ _ _ _ 256 large-usable (lit≤ tt) (made .before .all-targets .ensures) (made .all-labels .ensures) (omega (arith, states-are (made .before .before .before .before), made .before .before .before .before .states .ensures .1))
 
 pub reduce-spec : {M : Type 1} → statement M
 reduce-spec =
     tie.close
     (tie.spec
+    (λ c κs. search needs)
     states-requires
-    small-requires
-    slice-aggregate-reduce-with
+    (λ c κs. search needs)
+    (λ c κs. search needs)
+    (λ c. search needs)
+    (λ c. search needs)
     reduce-with-requires
-    same-length
-    same-length-2
-    returns
-    middle-requires
-    slice-aggregate-reduce-with-2
+    (λ c. search needs)
+    (λ c. search needs)
+    (λ c. search needs)
+    (λ c κs. search needs)
+    (λ c κs. search needs)
+    (λ c. search needs)
+    (λ c. search needs)
     reduce-with-requires-2
-    same-length-3
-    same-length-4
-    returns-2
-    whole-requires
-    slice-aggregate-reduce-with-3
+    (λ c. search needs)
+    (λ c. search needs)
+    (λ c. search needs)
+    (λ c κs. search needs)
+    (λ c κs. search needs)
+    (λ c. search needs)
+    (λ c. search needs)
     reduce-with-requires-3
-    same-length-5
-    same-length-6
-    returns-3)
+    (λ c. search needs)
+    (λ c. search needs)
+    (λ c. search needs))
