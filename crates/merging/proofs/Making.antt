@@ -22,8 +22,8 @@ use Rattle.refusals.proofs.Laws.{laid-front}
 use Rattle.files.specs.Tests.{Written, write-written}
 use Rattle.table.specs.Table.{Table, look}
 use Rattle.storing.specs.Stored.{led, rowEdge, stored, Storable}
+use Rattle.numbering.proofs.Laws.{seat}
 use Rattle.merging.specs.Merged.{Gathered, mergedBy, Foldable}
-use Rattle.merging.proofs.Merging.{seat}
 
 -- the names of all classes, ascending
 abbrev pub ordered : ℕ → List ℕ → List ℕ
@@ -44,7 +44,7 @@ listed-cong f g zero m h = refl
 listed-cong f g (suc n) m h =
     ap₂ (λ (a b : List Edge). a ++ b) (listed-cong f g n m (λ k y l. h k y (omega arith))) (row-cong (f n) (g n) n m (λ y l. h n y (omega arith) l))
 
-module _ (p : Profile) (T₀ : Table) (colours names : List ℕ) (r : Reading) (answer list-room : ℕ) (can : Foldable p T₀ colours names r answer list-room) where
+module _ {p : Profile} {T₀ : Table} {colours names : List ℕ} {r : Reading} {answer list-room : ℕ} (can : Foldable p T₀ colours names r answer list-room) where
   abbrev n : ℕ
   n = r .states
 
@@ -71,7 +71,7 @@ module _ (p : Profile) (T₀ : Table) (colours names : List ℕ) (r : Reading) (
       ∙ List·getD-append (tab n (number P)) (drop (length (tab n (number P))) list₀) 0 s (omega (arith, length-tab n (number P)))
       ∙ at-tab n (number P) s h
 
-  module _ (order : List ℕ) (order-is : order ≡ ordered n P) where
+  module _ {order : List ℕ} (order-is : order ≡ ordered n P) where
     pub order-long : length order ≡ classes n P
     order-long = ap length order-is ∙ length-tab (classes n P) (nameOf n P)
 
@@ -93,12 +93,12 @@ module _ (p : Profile) (T₀ : Table) (colours names : List ℕ) (r : Reading) (
     pub gathered : Gathered T₀ T n P
     pub hues-are : hues ≡ tab (length order) (λ i. at colours (at order i))
 
-  module _ (T : Table) (order list hues : List ℕ) (ready : Ready T order list hues) where
+  module _ {T : Table} {order list hues : List ℕ} (ready : Ready T order list hues) where
     -- the edge of a class in the table is that of its first member that has one
     first-edge : (i y : ℕ) → i < length order → look T (at order i) y ≡ look T₀ (least (λ s. eqb (at P s) (nameOf n P i) && has (look T₀ s y)) n) y
     first-edge i y h =
-        let is = name-is n P i (omega (arith, order-long order (ready .order-is))) in
-        ap (λ (s : ℕ). look T s y) (named-at order (ready .order-is) i h) ∙ ready .gathered .edges (nameOf n P i) y (is .0) (is .2)
+        let is = name-is n P i (omega (arith, order-long (ready .order-is))) in
+        ap (λ (s : ℕ). look T s y) (named-at (ready .order-is) i h) ∙ ready .gathered .edges (nameOf n P i) y (is .0) (is .2)
 
     inside : (i y t : ℕ) → i < length order → look T (at order i) y ≡ some t → (y < r .labels) × (t < n)
     inside i y t h e = let w = can .within _ y t (sym (first-edge i y h) ∙ e) in (w .1, w .2)
@@ -106,10 +106,10 @@ module _ (p : Profile) (T₀ : Table) (colours names : List ℕ) (r : Reading) (
     pub can-store : Storable p T order list (r .labels)
     can-store = record {
       usable = can .usable;
-      states = omega (arith, order-long order (ready .order-is), fit-classes);
+      states = omega (arith, order-long (ready .order-is), fit-classes);
       rows = λ i h. record {
-        targets-long = omega (arith, below order (ready .order-is) i h, can .rows .targets-long, ready .gathered .rows .targets-same);
-        labels-long = omega (arith, below order (ready .order-is) i h, can .rows .labels-long, ready .gathered .rows .labels-same);
+        targets-long = omega (arith, below (ready .order-is) i h, can .rows .targets-long, ready .gathered .rows .targets-same);
+        labels-long = omega (arith, below (ready .order-is) i h, can .rows .labels-long, ready .gathered .rows .labels-same);
       };
       label = λ i y t h e. inside i y t h e .0;
       listed = λ i y t h e. omega (arith, inside i y t h e .1, ready .long);
@@ -134,9 +134,9 @@ module _ (p : Profile) (T₀ : Table) (colours names : List ℕ) (r : Reading) (
     pub filter-made : stored T order list hues (r .labels) (at list (r .start)) ≡ mergedBy T₀ colours names r
     filter-made =
         let K = classes n P in
-        let long = order-long order (ready .order-is) in
+        let long = order-long (ready .order-is) in
         let hues-of : hues ≡ tab K (λ i. at colours (nameOf n P i)) =
-        ready .hues-are ∙ tab-cong (length order) _ _ (λ i h. ap (at colours) (named-at order (ready .order-is) i h)) ∙ ap (λ (i : ℕ). tab i (λ j. at colours (nameOf n P j))) long in
+        ready .hues-are ∙ tab-cong (length order) _ _ (λ i h. ap (at colours) (named-at (ready .order-is) i h)) ∙ ap (λ (i : ℕ). tab i (λ j. at colours (nameOf n P j))) long in
         let edges-of : listed (rowEdge T order list) (length order) (r .labels) ≡ listed (edge′ (look T₀) n P) K (r .labels) =
         listed-cong _ _ (length order) (r .labels) same-edge ∙ ap (λ (i : ℕ). listed (edge′ (look T₀) n P) i (r .labels)) long in
         λ i. record { colours = hues-of i; labels = r .labels; start = ready .numbers (r .start) (can .begins) i; edges = edges-of i }

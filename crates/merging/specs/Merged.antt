@@ -7,7 +7,6 @@ use mathlib.Core.Option.{Option, some}
 use lib.Dec.{eqb}
 use lib.ListN.{length, take}
 use Rattle.meaning.specs.Search.{least, at}
-use Rattle.meaning.specs.ClassesLaws.{Named}
 use Rattle.meaning.specs.Filter.{Filter}
 use Rattle.meaning.specs.Reduced.{has, mergedOver}
 use Rattle.layout.specs.declared.Profile.{Profile}
@@ -15,13 +14,7 @@ use Rattle.layout.specs.declared.Reading.{Reading}
 use Rattle.layout.specs.Code.{Usable}
 use Rattle.table.specs.Table.{Table, look, Rows, SameRows}
 use Rattle.storing.specs.Stored.{Packable}
-
--- The class names of n states in an array: right, and each state is in a class.
-pub record Names (n : ℕ) (names : List ℕ) : Type 0 where
-  pub few : n ≤ 256
-  pub long : length names ≡ 256
-  pub right : Named n (take n names)
-  pub all-named : (s : ℕ) → s < n → at (take n names) s < n
+use Rattle.numbering.specs.Names.{Names}
 
 -- Edges begin and end at one of n states, and their labels are below m.
 abbrev pub Within : (ℕ → ℕ → Option ℕ) → ℕ → ℕ → Type 0

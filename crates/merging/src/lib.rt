@@ -1,56 +1,17 @@
-// The filter of classes: numbered, its edges gathered in the table, and written as a file.
+// The filter of classes: its edges gathered in the table, and written as a file.
 use layout::Profile;
 use layout::Reading;
 ghost use mathlib.Core.Path.{_≡_};
 ghost use mathlib.Core.Option.{none};
-ghost use Prim.Native.Nat.{ℕ, _<_, _≤_};
+ghost use Prim.Native.Nat.{ℕ};
 ghost use lib.ListN.{length, take};
-ghost use Rattle.meaning.specs.Search.{tab, at};
+ghost use Rattle.meaning.specs.Search.{tab};
 ghost use Rattle.meaning.specs.Classes.{classes, number};
-ghost use Rattle.meaning.specs.Reduced.{nameOf};
 ghost use Rattle.layout.specs.Layout.{lengthOf, written};
 ghost use Rattle.refusals.specs.Refusals.{laid};
 ghost use Rattle.table.specs.Table.{table, look, Rows};
-ghost use Rattle.merging.specs.Merged.{Names, Gathered, mergedBy, Foldable};
-
-// Numbers the classes 0 upward by ascending name, writes the number of each state and the name of each class, and answers how
-// many classes there are.
-fn numbered(names: &[u16; 256], n: usize, list: &mut [u16], order: &mut [u16]) -> usize
-    requires { ⌜ Names n (now names) × (n ≤ length (now list)) × (n ≤ length (now order)) ⌝ }
-    ensures list { λ r. ⌜ now (list .exit) ≡ laid (tab n (number (take n (now (names .entry))))) (now (list .entry)) ⌝ }
-    ensures count { λ r. ⌜ r ≡ classes n (take n (now (names .entry))) ⌝ }
-    ensures names { λ r. ⌜ now (order .exit)
-        ≡ laid (tab (classes n (take n (now (names .entry)))) (nameOf n (take n (now (names .entry))))) (now (order .entry)) ⌝ }
-{
-    let mut k: usize = 0;
-    let mut s: usize = 0;
-    while s < n {
-        let name = names[s];
-        if name == s as u16 {
-            order[k] = name;
-            list[s] = k as u16;
-            k += 1;
-        } else {
-            list[s] = list[arrays::wide(name)];
-        }
-        s += 1;
-    }
-    k
-}
-
-// Writes the colour of each class: that of the state that names it.
-fn colours_by(colours: &[u8; 256], order: &[u16], hues: &mut [u8])
-    requires { ⌜ (length (now order) ≤ length (now hues)) × (length (now colours) ≡ 256) ⌝ }
-    requires { ⌜ ((k : ℕ) → k < length (now order) → at (now order) k < 256) ⌝ }
-    ensures { λ _. ⌜ now (hues .exit) ≡ laid (tab (length (now (order .entry)))
-        (λ k. at (now (colours .entry)) (at (now (order .entry)) k))) (now (hues .entry)) ⌝ }
-{
-    let mut k = 0;
-    while k < order.len() {
-        hues[k] = colours[arrays::wide(order[k])];
-        k += 1;
-    }
-}
+ghost use Rattle.numbering.specs.Names.{Names};
+ghost use Rattle.merging.specs.Merged.{Gathered, mergedBy, Foldable};
 
 // Gives the state that names a class the edges of all its members: at each label that of the first member that has one.
 fn gather(targets: &mut [u8], labels: &mut [u64], names: &[u16; 256], n: usize)
@@ -99,10 +60,10 @@ pub fn merged(
 {
     let n = reading.states;
     let mut order = arrays::fresh();
-    let count = numbered(names, n, list, &mut order);
+    let count = numbering::numbered(names, n, list, &mut order);
     gather(targets, labels, names, n);
     let mut hues = arrays::zero_bytes();
-    colours_by(colours, &order[..count], &mut hues);
+    numbering::colours_by(colours, &order[..count], &mut hues);
     let first = reading.start;
     let start = arrays::wide(list[first]);
     let length = storing::write(

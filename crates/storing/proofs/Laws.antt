@@ -68,7 +68,8 @@ cell-few k y (some t) = omega arith
 row-few : (next : ℕ → Option ℕ) (k y : ℕ) → length (row next k y) ≤ y
 unfolding row
 row-few next k zero = omega arith
-row-few next k (suc y) = rw (length-append (row next k y) (cell k y (next y))) (omega (arith, row-few next k y, cell-few k y (next y)))
+row-few next k (suc y) =
+    rw (length-append (row next k y) (cell k y (next y))) (omega (arith, row-few next k y, cell-few k y (next y)))
 
 listed-few : (next : ℕ → ℕ → Option ℕ) (n : ℕ) → length (listed next n 64) ≤ n * 64
 listed-few next n = rw (listed-length next n 64) (cells-max _ n 64)
@@ -98,13 +99,13 @@ unfolding listed
 listed-more next k m = rw (add-one k)
 
 -- edges drawn behind edges
-pub edges-drawn : {s₀ : List ℕ} {at : ℕ} {s s′ : List ℕ} {pen pen′ : Pen} (p : Profile) (es fs : List Edge) → EdgesDrawn p s₀ at es s pen →
-    EdgesDrawn p (inked s pen) (placeOf pen) fs s′ pen′ → EdgesDrawn p s₀ at (es ++ fs) s′ pen′
+pub edges-drawn : {s₀ : List ℕ} {at : ℕ} {s s′ : List ℕ} {pen pen′ : Pen} (p : Profile) (es fs : List Edge) →
+    EdgesDrawn p s₀ at es s pen → EdgesDrawn p (inked s pen) (placeOf pen) fs s′ pen′ → EdgesDrawn p s₀ at (es ++ fs) s′ pen′
 edges-drawn p es fs d e = rw (length-append es fs, widths-append p (length es) (length fs), flat-append es fs) (drawn-behind d e)
 
 -- edges as many as a table can have end where a pen can go on
-edges-near : {p : Profile} {s₀ : List ℕ} {at : ℕ} {s : List ℕ} {pen : Pen} (es : List Edge) → Usable p → EdgesDrawn p s₀ at es s pen →
-    length es ≤ 65536 → placeOf pen ≤ at + 1572864
+edges-near : {p : Profile} {s₀ : List ℕ} {at : ℕ} {s : List ℕ} {pen : Pen} (es : List Edge) → Usable p →
+    EdgesDrawn p s₀ at es s pen → length es ≤ 65536 → placeOf pen ≤ at + 1572864
 edges-near {p} es ok d few = omega (arith, d .place, total-edges p (length es), edges-high p ok (length es) few)
 
 pub listed-near : {p : Profile} {s₀ : List ℕ} {at : ℕ} {s : List ℕ} {pen : Pen} (next : ℕ → ℕ → Option ℕ) (k : ℕ) → Usable p →
@@ -112,18 +113,27 @@ pub listed-near : {p : Profile} {s₀ : List ℕ} {at : ℕ} {s : List ℕ} {pen
 listed-near next k ok d h = edges-near (listed next k 64) ok d (omega (arith, listed-few next k))
 
 -- The row of a state with the labels `set`, drawn up to a label; `rest` holds the labels from there on.
-pub record RowUpTo (p : Profile) (next : ℕ → Option ℕ) (k set : ℕ) (s₀ : List ℕ) (at : ℕ) (s : List ℕ) (pen : Pen) (rest : ℕ) : Type 0 where
+pub record RowUpTo (p : Profile) (next : ℕ → Option ℕ) (k set : ℕ) (s₀ : List ℕ) (at : ℕ) (s : List ℕ) (pen : Pen) (rest : ℕ)
+    : Type 0 where
   pub label : ℕ
   pub most : label ≤ 64
   pub edges : EdgesDrawn p s₀ at (row next k label) s pen
   pub gone : (j : ℕ) → j < label → holds rest j ≡ false
   pub left : (j : ℕ) → label ≤ j → holds rest j ≡ holds set j
 
-pub row-begun : (p : Profile) (next : ℕ → Option ℕ) (k set : ℕ) (s : List ℕ) (pen : Pen) → Ready pen → RowUpTo p next k set (inked s pen) (placeOf pen) s pen set
+pub row-begun : (p : Profile) (next : ℕ → Option ℕ) (k set : ℕ) (s : List ℕ) (pen : Pen) → Ready pen →
+    RowUpTo p next k set (inked s pen) (placeOf pen) s pen set
 unfolding row edgeWidths flat
-row-begun p next k set s pen h = record { label = 0; most = omega arith; edges = drawn-none s pen h; gone = λ j l. absurd (omega arith); left = λ j l. refl }
+row-begun p next k set s pen h = record {
+  label = 0;
+  most = omega arith;
+  edges = drawn-none s pen h;
+  gone = λ j l. absurd (omega arith);
+  left = λ j l. refl;
+}
 
-module _ {p : Profile} {next : ℕ → Option ℕ} {k set : ℕ} {s₀ : List ℕ} {at : ℕ} {s : List ℕ} {pen : Pen} {rest : ℕ} (r : RowUpTo p next k set s₀ at s pen rest) where
+module _ {p : Profile} {next : ℕ → Option ℕ} {k set : ℕ} {s₀ : List ℕ} {at : ℕ} {s : List ℕ} {pen : Pen} {rest : ℕ}
+    (r : RowUpTo p next k set s₀ at s pen rest) where
   pub row-near : Usable p → placeOf pen ≤ at + 1572864
   row-near ok = edges-near (row next k (r .label)) ok (r .edges) (omega (arith, row-few next k (r .label), r .most))
 

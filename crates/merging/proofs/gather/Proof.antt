@@ -8,7 +8,8 @@ use borrow.Author.Needs.{needs}
 use denote.Ref.{now}
 use lib.ListN.{take}
 use Rattle.table.specs.Table.{table, Rows, Gave}
-use Rattle.merging.proofs.Merging.{name-low, Gathering, gathering-begins, gathering-own, gathering-given, gathering-ends}
+use Rattle.numbering.proofs.Laws.{name-low}
+use Rattle.merging.proofs.Gathering.{Gathering, gathering-begins, gathering-own, gathering-given, gathering-ends}
 use Rattle.merging.proofs.gather.Statement.{statement}
 use Rattle.merging.proofs.gather.Tie as tie
 

@@ -35,10 +35,10 @@ order-is c =
     take-laid _ _ _ _ (made .1) (made .0 ∙ sym (length-tab _ _))
 
 count-is : (c : tie.After-numbered) → c .numbered .result ≡ length (order₁ c)
-count-is c = c .numbered .ensures .1 .0 ∙ sym (order-long _ _ _ _ _ _ _ (start₁ c .pre) (order₁ c) (order-is c))
+count-is c = c .numbered .ensures .1 .0 ∙ sym (order-long (start₁ c .pre) (order-is c))
 
 few : (c : tie.After-numbered) → c .numbered .result ≤ 256
-few c = omega (arith, c .numbered .ensures .1 .0, few-classes _ _ _ _ _ _ _ (start₁ c .pre))
+few c = omega (arith, c .numbered .ensures .1 .0, few-classes (start₁ c .pre))
 
 order-room : (c : tie.After-numbered) → c .numbered .result ≤ length (c .numbered .last .1 .1 .1 .0)
 order-room c = omega (arith, few c, c .numbered .kept .1 .1 .1 .0, c .before .before .before .fresh .ensures .1)
@@ -58,20 +58,20 @@ table₁ c = table (gather₁ c .gather .last .0) (gather₁ c .gather .last .1 
 abbrev hues₁ : tie.After-colours-by → List ℕ
 hues₁ c = take (numbered₁ c .numbered .result) (c .colours-by .last .1 .1 .0)
 
-ready : (c : tie.After-colours-by) → Ready _ _ _ _ _ _ _ (start₁ (numbered₁ c) .pre) (table₁ c) (order₁ (numbered₁ c)) (list₁ c) (hues₁ c)
+ready : (c : tie.After-colours-by) → Ready (start₁ (numbered₁ c) .pre) (table₁ c) (order₁ (numbered₁ c)) (list₁ c) (hues₁ c)
 ready c =
     let start = start₁ (numbered₁ c) in
     let made = numbered₁ c .numbered in
     record {
       order-is = order-is (numbered₁ c);
-      numbers = numbers-laid _ _ _ _ _ _ _ (start .pre) (list₁ c) (now (start .args .list)) (made .ensures .0);
+      numbers = numbers-laid (start .pre) (list₁ c) (now (start .args .list)) (made .ensures .0);
       long = omega (arith, made .kept .1 .1 .0, start .pre .list-room);
       gathered = gather₁ c .gather .ensures;
       hues-are = take-laid _ _ _ _ (c .colours-by .ensures) (count-is (numbered₁ c) ∙ sym (length-tab _ _));
     }
 
 hues-count : (c : tie.After-colours-by) → length (order₁ (numbered₁ c)) ≡ length (hues₁ c)
-hues-count c = hues-long _ _ _ _ _ _ _ (start₁ (numbered₁ c) .pre) (table₁ c) (order₁ (numbered₁ c)) (list₁ c) (hues₁ c) (ready c)
+hues-count c = hues-long (start₁ (numbered₁ c) .pre) (ready c)
 
 -- what is written is the filter of the classes
 filter-of : (c : tie.After-wide) →
@@ -83,15 +83,17 @@ filter-of c =
     let order = order₁ (numbered₁ b) in
     let start = start₁ (numbered₁ b) in
     ap (stored (table₁ b) order (list₁ b) (hues₁ b) (start .args .reading .labels)) (c .wide .ensures)
-    ∙ filter-made _ _ _ _ _ _ _ (start .pre) (table₁ b) order (list₁ b) (hues₁ b) (ready b)
+    ∙ filter-made (start .pre) (ready b)
 
 gather-requires : tie.Need-gather-requires
-gather-requires c κs = let can = c .before .before .before .before .before .before .before .before .before .before .before .before .before .pre in ((can .named, can .rows), no-edge _ _ _ _ _ _ _ can)
+gather-requires c κs =
+    let can = start₁ (c .before .before .before .before .before) .pre in
+    ((can .named, can .rows), no-edge can)
 
 colours-by-requires : tie.Need-colours-by-requires
 colours-by-requires c κs =
     let b = c .before .before .before .before .before .before .before .before .before .before .before .before .before in
-    ((omega (arith, few b, count-is b, c .before .before .zero-bytes .ensures .1), start₁ b .pre .colours-long), named-low _ _ _ _ _ _ _ (start₁ b .pre) (order₁ b) (order-is b))
+    ((omega (arith, few b, count-is b, c .before .before .zero-bytes .ensures .1), start₁ b .pre .colours-long), named-low (start₁ b .pre) (order-is b))
 
 array-share-prefix-hues : tie.Need-array-share-prefix-hues
 array-share-prefix-hues c =
@@ -107,7 +109,7 @@ write-requires c κs =
     let start = start₁ (numbered₁ b) in
     let a = start .args in
     record {
-      rows = can-store _ _ _ _ _ _ _ (start .pre) (table₁ b) (order₁ (numbered₁ b)) (list₁ b) (hues₁ b) (ready b);
+      rows = can-store (start .pre) (ready b);
       labels = start .pre .labels;
       coloured = hues-count b;
       packable = subst (λ (F : Filter). Packable (a .p) F (length (now (a .answer)))) (sym (filter-of (c .before .before .before .before .before .before))) (start .pre .answer-room);
@@ -115,12 +117,13 @@ write-requires c κs =
 
 returns : tie.Need-returns
 returns c =
-    let write = c .before .before .write in
-    let numbered = c .before .before .before .before .before .before .before .before .before .before .before .before .before .before .before .before .before .before .before .before .before .before .before .before .before .before .numbered in
-    let a = c .before .before .before .before .before .before .before .before .before .before .before .before .before .before .before .before .before .before .before .before .before .before .before .before .before .before .before .before .before .before .before .before .before .before .args in
-    let filter = filter-of (c .before .before .before .before .before .before .before .before .before) in (
-      write .ensures .0 ∙ ap (λ (F : Filter). laid (written (a .p) F) (now (a .answer))) filter,
-      (numbered .ensures .0, (numbered .ensures .1 .0, write .ensures .1 ∙ ap (lengthOf (a .p)) filter)),
+    let write = c .before .before in
+    let wide = write .before .before .before .before .before .before .before in
+    let numbered = numbered₁ (wide .before .before .before) in
+    let a = start₁ numbered .args in
+    let filter = filter-of wide in (
+      write .write .ensures .0 ∙ ap (λ (F : Filter). laid (written (a .p) F) (now (a .answer))) filter,
+      (numbered .numbered .ensures .0, (numbered .numbered .ensures .1 .0, write .write .ensures .1 ∙ ap (lengthOf (a .p)) filter)),
     )
 
 pub merged-spec : {M : Type 1} → statement M

@@ -50,7 +50,8 @@ loop-again : tie.Need-loop-again Inv-loop μ-loop
 loop-again c =
     let in-loop = c .before .before .before .before in
     let loop = in-loop .before .loop in
-    (omega (arith, in-loop .loop-test .taken), rw (listed-more _ (loop .k) 64) (edges-drawn _ _ _ (loop .inv .1) (c .before .before .put-row .ensures)))
+    let row = c .before .before .put-row .ensures in
+    (omega (arith, in-loop .loop-test .taken), rw (listed-more _ (loop .k) 64) (edges-drawn _ _ _ (loop .inv .1) row))
 
 returns : tie.Need-returns Inv-loop μ-loop
 returns c =

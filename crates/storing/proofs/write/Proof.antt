@@ -119,15 +119,19 @@ put-edges-requires c κs =
       omega (arith, same, c .edges-begin .ensures .0, rw (count start) at (passed start .roomy)),
     )
 
--- so many states and edges make no file too long
-small : (c : tie.After-edge-count) → Usable (start₁ c .args .p) × (length (now (start₁ c .args .order)) ≤ 256) × (c .edge-count .result ≤ 65536)
+abbrev counting₁ : tie.After-put-edges → tie.After-edge-count
+counting₁ c = c .before .before .before .before .before .before .before .before .before .before .before .before
+
+-- states and edges are few enough for the code's sums
+small : (c : tie.After-edge-count) →
+    Usable (start₁ c .args .p) × (length (now (start₁ c .args .order)) ≤ 256) × (c .edge-count .result ≤ 65536)
 small c = (start₁ c .pre .rows .usable, count≤256 (start₁ c), omega (arith, c .edge-count .ensures .0))
 
 fill-requires : tie.Need-fill-requires
-fill-requires c κs = small (c .before .before .before .before .before .before .before .before .before .before .before .before .before .before .before)
+fill-requires c κs = small (counting₁ (c .before .before .before))
 
 file-bits-requires : tie.Need-file-bits-requires
-file-bits-requires c κs = small (c .before .before .before .before .before .before .before .before .before .before .before .before .before .before .before .before .before .before)
+file-bits-requires c κs = small (counting₁ (c .before .before .before .before .before .before))
 
 returns : tie.Need-returns
 unfolding lengthOf fileLength
@@ -150,7 +154,14 @@ returns c =
     fill .fill .ensures
     ∙ ap (λ (s : List ℕ). putField s (fileBits p n e) (fillBits p n e) 0)
     (edges .put-edges .ensures
-    ∙ rw (short start, begin .edges-begin .ensures .0, run .put-run .ensures, put .put .ensures, header .header-bits .ensures .0, count start)) in (
+    ∙ rw (
+      short start,
+      begin .edges-begin .ensures .0,
+      run .put-run .ensures,
+      put .put .ensures,
+      header .header-bits .ensures .0,
+      count start,
+    )) in (
       written
           ∙ ap₂ (all start) (sym (count start)) (counted counting)
           ∙ written-laid p (start .pre .rows .usable) (F start) (passed start .writable) room bytes (passed start .roomy),

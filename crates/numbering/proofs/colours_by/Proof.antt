@@ -1,4 +1,4 @@
--- `merging::colours_by` meets its contract. Assumes nothing.
+-- `numbering::colours_by` meets its contract. Assumes nothing.
 use mathlib.Core.Path.{_≡_, refl, ap, _∙_}
 use mathlib.Core.List.{_++_}
 use Prim.Native.Nat.{ℕ, _-_, _≤_}
@@ -8,9 +8,9 @@ use borrow.Author.Needs.{needs}
 use denote.Ref.{now}
 use lib.ListN.{length, drop, length-set}
 use Rattle.meaning.specs.Search.{tab, at}
-use Rattle.merging.proofs.Merging.{laid-more, laid-all}
-use Rattle.merging.proofs.colours_by.Statement.{statement}
-use Rattle.merging.proofs.colours_by.Tie as tie
+use Rattle.numbering.proofs.Laws.{laid-more, laid-all}
+use Rattle.numbering.proofs.colours_by.Statement.{statement}
+use Rattle.numbering.proofs.colours_by.Tie as tie
 
 abbrev Inv-loop : tie.InvT-loop
 Inv-loop colours order hues₀ k₀ hues k = (k ≤ length order) × (length hues ≡ length hues₀) × (hues ≡ tab k (λ i. at colours (at order i)) ++ drop k hues₀)

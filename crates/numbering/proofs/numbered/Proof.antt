@@ -1,4 +1,4 @@
--- `merging::numbered` meets its contract. Assumes nothing.
+-- `numbering::numbered` meets its contract. Assumes nothing.
 use mathlib.Core.Path.{_≡_, ap, _∙_}
 use mathlib.Core.Logic.{⊎-elim}
 use Prim.Native.Nat.{_-_, _≤_, _<_}
@@ -10,9 +10,9 @@ use lib.ListN.{take}
 use Rattle.meaning.specs.Search.{count, at}
 use Rattle.meaning.specs.Reduced.{nameOf}
 use Rattle.meaning.specs.Classes.{named, classes, number}
-use Rattle.merging.proofs.Merging.{name-low, laid-all, Numbering, numbering-begins, numbering-own, numbering-other}
-use Rattle.merging.proofs.numbered.Statement.{statement}
-use Rattle.merging.proofs.numbered.Tie as tie
+use Rattle.numbering.proofs.Laws.{name-low, laid-all, Numbering, numbering-begins, numbering-own, numbering-other}
+use Rattle.numbering.proofs.numbered.Statement.{statement}
+use Rattle.numbering.proofs.numbered.Tie as tie
 
 abbrev Inv-loop : tie.InvT-loop
 Inv-loop names n list₀ order₀ k₀ s₀ list order k s = (s ≤ n) × Numbering n (take n names) list₀ order₀ list order k s
