@@ -1,5 +1,5 @@
--- `pairs::pair_in` meets its contract. The invariants: no member before a conflicts with a later one, nor a with one before b, and
--- no label that is tried parts a and b. Assumes nothing.
+-- `pairs::pair_in` meets its contract. The invariants: no member before a conflicts with a later one, nor a with one before b,
+-- and no label that is tried parts a and b. Assumes nothing.
 use Prim.Native.Nat.{_-_}
 use borrow.Author.Needs.{needs}
 use native.Mathlib.Omega.{arith}
@@ -39,7 +39,8 @@ loop-holds : tie.Need-loop-holds Inv-loop2 μ-loop2 Inv-loop μ-loop Inv-search 
 loop-holds c =
     let search = c .before .before .before in
     let here = c .before .before .search-test .taken in
-    let next = hop _ _ _ (search .before .before .before .pre .0 .linked) _ (search .search .a) _ here (search .search .inv .member here) (c .wide .ensures) in
+    let linked = search .before .before .before .pre .0 .linked in
+    let next = hop _ _ _ linked _ _ _ (search .search .inv .stands) here (c .wide .ensures) in
     inner-begun _ _ _ _ _ _ _ (search .search .inv) next
 
 loop2-holds : tie.Need-loop2-holds Inv-loop2 μ-loop2 Inv-loop μ-loop Inv-search μ-search
@@ -62,8 +63,8 @@ loop-less c =
     let loop = tried .before .before .before .before .before in
     let here = tried .before .before .before .before .loop-test .taken in
     let linked = loop .before .before .before .before .before .before .before .pre .0 .linked in
-    let next = hop _ _ _ linked _ (loop .loop .b) _ here (loop .loop .inv .member here) (c .wide2 .ensures) in
-    omega (arith, next .after, next .inside)
+    let next = hop _ _ _ linked _ _ _ (loop .loop .inv .stands) here (c .wide2 .ensures) in
+    omega (arith, next .after, next .stands .inside)
 
 loop-again : tie.Need-loop-again Inv-loop2 μ-loop2 Inv-loop μ-loop Inv-search μ-search
 loop-again c =
@@ -71,7 +72,7 @@ loop-again c =
     let loop = tried .before .before .before .before .before in
     let here = tried .before .before .before .before .loop-test .taken in
     let linked = loop .before .before .before .before .before .before .before .pre .0 .linked in
-    let next = hop _ _ _ linked _ (loop .loop .b) _ here (loop .loop .inv .member here) (c .wide2 .ensures) in
+    let next = hop _ _ _ linked _ _ _ (loop .loop .inv .stands) here (c .wide2 .ensures) in
     let calm = calm-all _ _ _ _ _ (tried .loop2 .inv .1) (omega (arith, c .before .before .loop2-test .left)) in
     inner-more _ _ _ _ _ _ _ _ _ (loop .loop .inv) (tried .loop2 .inv .0) calm next
 
@@ -79,15 +80,18 @@ search-less : tie.Need-search-less Inv-loop2 μ-loop2 Inv-loop μ-loop Inv-searc
 search-less c =
     let search = c .before .before .before .before .before .before .before in
     let here = c .before .before .before .before .before .before .search-test .taken in
-    let next = hop _ _ _ (search .before .before .before .pre .0 .linked) _ (search .search .a) _ here (search .search .inv .member here) (c .wide3 .ensures) in
-    omega (arith, next .after, next .inside)
+    let linked = search .before .before .before .pre .0 .linked in
+    let next = hop _ _ _ linked _ _ _ (search .search .inv .stands) here (c .wide3 .ensures) in
+    omega (arith, next .after, next .stands .inside)
 
 search-again : tie.Need-search-again Inv-loop2 μ-loop2 Inv-loop μ-loop Inv-search μ-search
 search-again c =
     let search = c .before .before .before .before .before .before .before in
     let here = c .before .before .before .before .before .before .search-test .taken in
-    let next = hop _ _ _ (search .before .before .before .pre .0 .linked) _ (search .search .a) _ here (search .search .inv .member here) (c .wide3 .ensures) in
-    outer-more _ _ _ _ _ _ _ _ _ (search .search .inv) (c .before .before .before .loop .inv) (c .before .before .loop-test .left) next
+    let linked = search .before .before .before .pre .0 .linked in
+    let next = hop _ _ _ linked _ _ _ (search .search .inv .stands) here (c .wide3 .ensures) in
+    let loop = c .before .before .before in
+    outer-more _ _ _ _ _ _ _ _ _ (search .search .inv) (loop .loop .inv) (c .before .before .loop-test .left) next
 
 returns : tie.Need-returns Inv-loop2 μ-loop2 Inv-loop μ-loop Inv-search μ-search
 returns c = outer-all _ _ _ _ _ _ (c .before .search .inv) (c .search-test .left)
