@@ -31,7 +31,7 @@ next-until P n c s t u next l e = test (ltb s u) (λ q. absurd (next .gap s l (l
 -- ---- any, for a loop upward
 
 -- states that do not pass leave it as it is
-pub any-skip : (p : ℕ → Bool) (t u : ℕ) → t ≤ u → ((x : ℕ) → t ≤ x → x < u → p x ≡ false) → any p u ≡ any p t
+any-skip : (p : ℕ → Bool) (t u : ℕ) → t ≤ u → ((x : ℕ) → t ≤ x → x < u → p x ≡ false) → any p u ≡ any p t
 unfolding any
 any-skip p t zero h miss = let e : 0 ≡ t = omega arith in ap (any p) e
 any-skip p t (suc u) h miss = test (eqb t (suc u))
@@ -86,8 +86,8 @@ module _ (clashes : ℕ → ℕ → Bool) (P G : List ℕ) (c s : ℕ) where
       same : (g : ℕ) → eqb (at G t) g ≡ true
           → (eqb (at P t) c && (clashes t s && eqb (at G t) g)) || taken clashes P G c s g t ≡ taken clashes P G c s g t
       same g q =
-          let all : taken clashes P G c s g t ≡ true = ap (λ (k : ℕ). taken clashes P G c s k t) (sym (eqb-true (at G t) g q))
-          ∙ marked in
+          let all : taken clashes P G c s g t ≡ true =
+          ap (λ (k : ℕ). taken clashes P G c s k t) (sym (eqb-true (at G t) g q)) ∙ marked in
           rw (all, or-right (eqb (at P t) c && (clashes t s && eqb (at G t) g)) refl)
 
       other : (g : ℕ) → eqb (at G t) g ≡ false

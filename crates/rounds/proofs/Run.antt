@@ -99,13 +99,13 @@ module _ (T : Table) (n : ℕ) (inside : (s y t : ℕ) → look T s y ≡ some t
 
 -- ---- the run
 
+both : {P P′ : List ℕ} {k k′ : ℕ} → P ≡ P′ → k ≡ k′
+    → _≡_ {A = Classes} (record { names = P; rounds = k }) (record { names = P′; rounds = k′ })
+both p q = ap₂ {C = Classes} (λ (P : List ℕ) (k : ℕ). record { names = P; rounds = k }) p q
+
 module _ (T : Table) (hues : List ℕ) (n : ℕ) where
   abbrev task : Task
   task = taskOf everyone groups T hues n
-
-  both : {P P′ : List ℕ} {k k′ : ℕ} → P ≡ P′ → k ≡ k′
-      → _≡_ {A = Classes} (record { names = P; rounds = k }) (record { names = P′; rounds = k′ })
-  both p q = ap₂ {C = Classes} (λ (P : List ℕ) (k : ℕ). record { names = P; rounds = k }) p q
 
   abbrev now : Partition → Classes
   now Q = record { names = take n (Q .names); rounds = Q .rounds }

@@ -1,12 +1,12 @@
 -- `grouping::group` meets its contract. The invariant: the members before s have their groups. Assumes nothing.
-use Prim.Native.Nat.{_≤_, _<_, _+_, _-_}
+use Prim.Native.Nat.{_≤_, _+_, _-_}
 use borrow.Author.Needs.{needs}
 use native.Mathlib.Omega.{arith}
-use mathlib.Core.Path.{_≡_, _∙_}
-use Rattle.meaning.specs.Search.{at}
+use mathlib.Core.Path.{_∙_}
+use denote.Ref.{now}
 use Rattle.table.specs.Table.{table}
 use Rattle.conflicts.specs.Conflicts.{clash}
-use Rattle.members.proofs.Laws.{Standing, at-head, hop}
+use Rattle.members.proofs.Laws.{Standing, Hop, at-head, hop}
 use Rattle.grouping.specs.Grouping.{Grouped}
 use Rattle.grouping.proofs.Laws.{grouped-none, grouped-more, grouped-skip, grouped-all, group-marked}
 use Rattle.grouping.proofs.group.Statement.{statement}
@@ -49,19 +49,25 @@ smallest-unmarked-requires c κs = (omega arith, c .before .mark .ensures .long)
 element-write-into : tie.Need-element-write-into Inv-loop μ-loop
 element-write-into c = omega (arith, c .before .before .before .before .before .before .before .loop .inv .1 .long)
 
-loop-less : tie.Need-loop-less Inv-loop μ-loop
-loop-less c =
+step : (c : tie.After-wide Inv-loop μ-loop)
+    → let loop = c .before .before .before .before .before .before .before .before .before in
+    let a = loop .before .before .before .args in
+    Hop (now (a .names)) (a .n) (a .c) (loop .loop .s) (c .wide .result)
+step c =
     let loop = c .before .before .before .before .before .before .before .before .before in
     let here = c .before .before .before .before .before .before .before .before .loop-test .taken in
-    let next = hop _ _ _ (loop .before .before .before .pre .0 .linked) _ _ _ (loop .loop .inv .0) here (c .wide .ensures) in
+    hop _ _ _ (loop .before .before .before .pre .0 .linked) _ _ _ (loop .loop .inv .0) here (c .wide .ensures)
+
+loop-less : tie.Need-loop-less Inv-loop μ-loop
+loop-less c = let next = step c in
     omega (arith, next .after, next .stands .inside)
 
 loop-again : tie.Need-loop-again Inv-loop μ-loop
 loop-again c =
     let loop = c .before .before .before .before .before .before .before .before .before in
-    let here = c .before .before .before .before .before .before .before .before .loop-test .taken in
-    let next = hop _ _ _ (loop .before .before .before .pre .0 .linked) _ _ _ (loop .loop .inv .0) here (c .wide .ensures) in
+    let next = step c in
     let s = loop .loop .s in
+    let here = c .before .before .before .before .before .before .before .before .loop-test .taken in
     let member = loop .loop .inv .0 .member here in
     let marked = group-marked _ _ _ _ s _ (omega arith) member (c .before .before .before .before .mark .ensures) in
     let chosen = c .before .before .smallest-unmarked .ensures ∙ marked in

@@ -2,12 +2,13 @@
 use Prim.Native.Nat.{_≤_, _<_, _+_, _-_}
 use borrow.Author.Needs.{needs}
 use native.Mathlib.Omega.{arith}
-use mathlib.Core.Path.{_≡_, sym, ap, _∙_}
+use mathlib.Core.Path.{sym, ap, _∙_}
 use mathlib.Core.Logic.{⊎-elim}
+use denote.Ref.{now}
 use Rattle.meaning.specs.Search.{at}
 use Rattle.table.specs.Table.{table}
 use Rattle.conflicts.specs.Conflicts.{clash}
-use Rattle.members.proofs.Laws.{Standing, at-head, hop}
+use Rattle.members.proofs.Laws.{Standing, Hop, at-head, hop}
 use Rattle.grouping.specs.Grouping.{Marks}
 use Rattle.grouping.proofs.Laws.{first-until, next-until}
 use Rattle.grouping.proofs.Laws.{marks-none, marks-skip, marks-calm, marks-again, marks-more, marks-all}
@@ -37,12 +38,17 @@ group-low c =
     let low = loop .before .before .before .pre .2 .groups-low (loop .loop .t) (c .before .before .loop-test .taken) in
     omega (arith, low, c .wide .ensures)
 
-loop-less : tie.Need-loop-less Inv-loop μ-loop
-loop-less c =
+step : (c : tie.After-wide2 Inv-loop μ-loop)
+    → let loop = c .before .before .before .before .before .before .before in
+    let a = loop .before .before .before .args in
+    Hop (now (a .names)) (a .n) (a .c) (loop .loop .t) (c .wide2 .result)
+step c =
     let loop = c .before .before .before .before .before .before .before in
-    let here = c .before .before .before .before .before .before .loop-test .taken in
     let pre = loop .before .before .before .pre in
-    let next = hop _ _ _ (pre .0 .linked) _ _ _ (loop .loop .inv .1) (omega (arith, pre .2 .inside)) (c .wide2 .ensures) in
+    hop _ _ _ (pre .0 .linked) _ _ _ (loop .loop .inv .1) (omega (arith, pre .2 .inside)) (c .wide2 .ensures)
+
+loop-less : tie.Need-loop-less Inv-loop μ-loop
+loop-less c = let next = step c in
     omega (arith, next .after, next .stands .inside)
 
 loop-again : tie.Need-loop-again Inv-loop μ-loop
@@ -50,7 +56,7 @@ loop-again c =
     let loop = c .before .before .before .before .before .before .before in
     let here = c .before .before .before .before .before .before .loop-test .taken in
     let pre = loop .before .before .before .pre in
-    let next = hop _ _ _ (pre .0 .linked) _ _ _ (loop .loop .inv .1) (omega (arith, pre .2 .inside)) (c .wide2 .ensures) in
+    let next = step c in
     let t = loop .loop .t in
     let low = pre .2 .groups-low t here in
     let group = c .before .before .before .before .wide .ensures in

@@ -1,12 +1,11 @@
 -- `partition::Partition::split` meets its contract. The invariant: the members before s have their new names, and the first of
 -- each group is known. Assumes nothing.
-use Prim.Native.Nat.{_≤_, _<_, _+_, _-_}
+use Prim.Native.Nat.{_<_, _+_, _-_}
 use borrow.Author.Needs.{needs}
 use native.Mathlib.Omega.{arith}
-use mathlib.Core.Path.{_≡_, refl, _∙_}
+use mathlib.Core.Path.{refl, _∙_}
 use mathlib.Core.Logic.{⊎-elim}
-use Rattle.meaning.specs.Search.{at}
-use Rattle.members.proofs.Laws.{Standing, at-head, hop}
+use Rattle.members.proofs.Laws.{Standing, Hop, at-head, hop}
 use Rattle.partition.proofs.Laws.{Renamed, renamed-none, renamed-skip, renamed-new, renamed-again, renamed-all, rounded-by}
 use Rattle.partition.proofs.Partition.split.Statement.{statement}
 use Rattle.partition.proofs.Partition.split.Tie as tie
@@ -36,12 +35,17 @@ group-low c =
     let low = c .before .before .before .before .group .ensures .low (c .before .before .loop .s) (c .before .loop-test .taken) in
     omega (arith, low, c .wide .ensures)
 
-loop-less : tie.Need-loop-less Inv-loop μ-loop
-loop-less c =
+step : (c : tie.After-wide2 Inv-loop μ-loop)
+    → let loop = c .before .before .before .before .before in
+    let a = loop .before .before .before .before .before .before .before .before .before .args in
+    Hop (a .self .names) (a .n) (a .c) (loop .loop .s) (c .wide2 .result)
+step c =
     let loop = c .before .before .before .before .before in
-    let here = c .before .before .before .before .loop-test .taken in
-    let pre = loop .before .before .before .before .before .before .before .before .before .pre in
-    let next = hop _ _ _ (pre .0 .linked) _ _ _ (loop .loop .inv .0) here (c .wide2 .ensures) in
+    let linked = loop .before .before .before .before .before .before .before .before .before .pre .0 .linked in
+    hop _ _ _ linked _ _ _ (loop .loop .inv .0) (c .before .before .before .before .loop-test .taken) (c .wide2 .ensures)
+
+loop-less : tie.Need-loop-less Inv-loop μ-loop
+loop-less c = let next = step c in
     omega (arith, next .after, next .stands .inside)
 
 loop-again : tie.Need-loop-again Inv-loop μ-loop
@@ -49,7 +53,7 @@ loop-again c =
     let loop = c .before .before .before .before .before in
     let here = c .before .before .before .before .loop-test .taken in
     let pre = loop .before .before .before .before .before .before .before .before .before .pre in
-    let next = hop _ _ _ (pre .0 .linked) _ _ _ (loop .loop .inv .0) here (c .wide2 .ensures) in
+    let next = step c in
     let s = loop .loop .s in
     let before = loop .loop .inv .1 in
     let member = loop .loop .inv .0 .member here in
