@@ -68,7 +68,8 @@ module _ (T : Table) (P : List ℕ) (a b : ℕ) where
   }
 
   -- label k is tried, which leads the two states to u and v
-  module _ (rest k u v : ℕ) (calm : Calm rest) (next : (k < 64) × Lowest rest k) (to-u : u ≡ target a k) (to-v : v ≡ target b k) where
+  module _ (rest k u v : ℕ) (calm : Calm rest) (next : (k < 64) × Lowest rest k) (to-u : u ≡ target a k)
+      (to-v : v ≡ target b k) where
     here : apart P (look T a k) (look T b k) ≡ not (eqb (at P u) (at P v))
     here = let there = next .1 .there in rw (to-u, to-v) (both k (next .0) (calm .left k there) (calm .right k there))
 

@@ -31,7 +31,7 @@ next-until P n c s t u next l e = test (ltb s u) (λ q. absurd (next .gap s l (l
 -- ---- any, for a loop upward
 
 -- states that do not pass leave it as it is
-pub any-skip : (p : ℕ → Bool) (t u : ℕ) → t ≤ u → ((x : ℕ) → t ≤ x → x < u → p x ≡ false) → any p u ≡ any p t
+any-skip : (p : ℕ → Bool) (t u : ℕ) → t ≤ u → ((x : ℕ) → t ≤ x → x < u → p x ≡ false) → any p u ≡ any p t
 unfolding any
 any-skip p t zero h miss = let e : 0 ≡ t = omega arith in ap (any p) e
 any-skip p t (suc u) h miss = test (eqb t (suc u))
@@ -86,8 +86,8 @@ module _ (clashes : ℕ → ℕ → Bool) (P G : List ℕ) (c s : ℕ) where
       same : (g : ℕ) → eqb (at G t) g ≡ true
           → (eqb (at P t) c && (clashes t s && eqb (at G t) g)) || taken clashes P G c s g t ≡ taken clashes P G c s g t
       same g q =
-          let all : taken clashes P G c s g t ≡ true = ap (λ (k : ℕ). taken clashes P G c s k t) (sym (eqb-true (at G t) g q))
-          ∙ marked in
+          let all : taken clashes P G c s g t ≡ true =
+          ap (λ (k : ℕ). taken clashes P G c s k t) (sym (eqb-true (at G t) g q)) ∙ marked in
           rw (all, or-right (eqb (at P t) c && (clashes t s && eqb (at G t) g)) refl)
 
       other : (g : ℕ) → eqb (at G t) g ≡ false
@@ -106,7 +106,8 @@ module _ (clashes : ℕ → ℕ → Bool) (P G : List ℕ) (c s : ℕ) where
       same : (g : ℕ) → eqb (at G t) g ≡ true → at (set marks (at G t) 1) g ≡ bit (taken clashes P G c s g (t + 1))
       same g q =
           let e : at G t ≡ g = eqb-true (at G t) g q in
-          let kept : at (set marks (at G t) 1) g ≡ 1 = ap (at (set marks (at G t) 1)) (sym e) ∙ getD-set-same marks (at G t) 1 0 (omega (arith, r .long)) in
+          let kept : at (set marks (at G t) 1) g ≡ 1 =
+          ap (at (set marks (at G t) 1)) (sym e) ∙ getD-set-same marks (at G t) 1 0 (omega (arith, r .long)) in
           rw (here g, q, kept)
 
       other : (g : ℕ) → g < 256 → eqb (at G t) g ≡ false → at (set marks (at G t) 1) g ≡ bit (taken clashes P G c s g (t + 1))
@@ -124,7 +125,8 @@ module _ (clashes : ℕ → ℕ → Bool) (P G : List ℕ) (c s : ℕ) where
   unfolding group
   group-marked marks l e r =
       rw (group, eq-eqb (at P s) c e)
-      (least-cong (λ g. eqb (at marks g) 0) (λ g. not (taken clashes P G c s g s)) s (λ g h. ap (λ (v : ℕ). eqb v 0) (r .says g (omega arith)) ∙ bit-zero (taken clashes P G c s g s)))
+      (least-cong (λ g. eqb (at marks g) 0) (λ g. not (taken clashes P G c s g s)) s
+      (λ g h. ap (λ (v : ℕ). eqb v 0) (r .says g (omega arith)) ∙ bit-zero (taken clashes P G c s g s)))
 
   pub group-low : group clashes P c G s ≤ s
   unfolding group
@@ -142,7 +144,12 @@ module _ (clashes : ℕ → ℕ → Bool) (P : List ℕ) (c : ℕ) where
 
   pub grouped-none : (G : List ℕ) → G ≡ replicate 256 0 → Grouped clashes P c G 0
   unfolding groups
-  grouped-none G h = rw h record { long = length-replicate {A = ℕ} 256 0; front = refl; low = λ t l. absurd (omega arith); rest = λ t l. blank clashes P [] c 0 256 t }
+  grouped-none G h = rw h record {
+    long = length-replicate {A = ℕ} 256 0;
+    front = refl;
+    low = λ t l. absurd (omega arith);
+    rest = λ t l. blank clashes P [] c 0 256 t;
+  }
 
   -- the group of s, from the groups of the states before it
   unfoldable next : List ℕ → ℕ → ℕ
@@ -152,7 +159,8 @@ module _ (clashes : ℕ → ℕ → Bool) (P : List ℕ) (c : ℕ) where
   group-front : (G : List ℕ) (s : ℕ) → group clashes P c G s ≡ next (take s G) s
   unfolding group free taken next
   group-front G s = ap (λ (k : ℕ). elim (member s) as (λ x. ℕ) [ true ↦ k | false ↦ 0 ])
-      (least-cong _ _ s (λ g h. ap not (any-cong _ _ s (λ t l. ap (λ (k : ℕ). member t && (clashes t s && eqb k g)) (sym (at-take G s t l))))))
+      (least-cong _ _ s (λ g h. ap not
+      (any-cong _ _ s (λ t l. ap (λ (k : ℕ). member t && (clashes t s && eqb k g)) (sym (at-take G s t l))))))
 
   pub grouped-more : (G : List ℕ) (s v : ℕ) → Grouped clashes P c G s → s < 256 → v ≡ group clashes P c G s
       → Grouped clashes P c (set G s v) (s + 1)
@@ -160,11 +168,13 @@ module _ (clashes : ℕ → ℕ → Bool) (P : List ℕ) (c : ℕ) where
   grouped-more G s v r l e = record {
     long = length-set G s v ∙ r .long;
     front =
-        let more : groups member clashes (s + 1) ≡ groups member clashes s ++ (next (groups member clashes s) s ∷ []) = rw (add-one s, groups) in
-        let here : v ≡ next (groups member clashes s) s = e ∙ group-front G s ∙ rw (r .front) in
+        let G′ = groups member clashes s in
+        let more : groups member clashes (s + 1) ≡ G′ ++ (next G′ s ∷ []) = rw (add-one s, groups) in
+        let here : v ≡ next G′ s = e ∙ group-front G s ∙ rw (r .front) in
         rw (more, ← here, ← r .front, add-one s) (take-suc-set G s v (omega (arith, r .long)));
     low = λ t h. test (eqb t s)
-        (λ q. let z : t ≡ s = eqb-true t s q in rw z (let w = group-low clashes P G c s in rw (getD-set-same G s v 0 (omega (arith, r .long)), e) (omega (arith, w))))
+        (λ q. let z : t ≡ s = eqb-true t s q in
+        rw (z, getD-set-same G s v 0 (omega (arith, r .long)), e) (omega (arith, group-low clashes P G c s)))
         (λ q. let z = eqb-false t s q in rw (getD-set-other G s t v 0 (λ u. z u)) (r .low t (omega arith)));
     rest = λ t h. let z : t ≡ s → ⊥ = λ u. omega arith in rw (getD-set-other G s t v 0 z) (r .rest t (omega arith));
   }
@@ -175,7 +185,8 @@ module _ (clashes : ℕ → ℕ → Bool) (P : List ℕ) (c : ℕ) where
   grouped-other G s r l h = record {
     long = r .long;
     front =
-        let more : groups member clashes (s + 1) ≡ groups member clashes s ++ (0 ∷ []) = rw (add-one s, groups, ne-eqb (at P s) c h) in
+        let more : groups member clashes (s + 1) ≡ groups member clashes s ++ (0 ∷ []) =
+        rw (add-one s, groups, ne-eqb (at P s) c h) in
         let one : take (s + 1) G ≡ take s G ++ (at G s ∷ []) = rw (add-one s) (take-suc G s 0 (omega (arith, r .long))) in
         rw (more, one, r .front, r .rest s (omega arith));
     low = λ t k. test (eqb t s)
@@ -190,7 +201,8 @@ module _ (clashes : ℕ → ℕ → Bool) (P : List ℕ) (c : ℕ) where
   grouped-skip G s (suc u) r h l miss = test (eqb s (suc u))
       (λ q. subst (Grouped clashes P c G) (eqb-true s (suc u) q) r)
       (λ q. let k : s ≤ u = omega (arith, eqb-false s (suc u) q) in
-      rw (← add-one u) (grouped-other G u (grouped-skip G s u r k (omega arith) (λ x m b. miss x m (omega arith))) (omega arith) (miss u k (omega arith))))
+      let before = grouped-skip G s u r k (omega arith) (λ x m b. miss x m (omega arith)) in
+      rw (← add-one u) (grouped-other G u before (omega arith) (miss u k (omega arith))))
 
   pub grouped-all : (G : List ℕ) (s n : ℕ) → Grouped clashes P c G s → s ≡ n → Grouped clashes P c G n
   grouped-all G s n r e = subst (Grouped clashes P c G) e r

@@ -1,5 +1,4 @@
--- Members of a class that follow each other: how the links are made, and that what holds of the members and of no other state holds
--- of all. Assumes nothing.
+-- Members of a class that follow each other: from one to the next, and how the links are made. Assumes nothing.
 use Prim.Native.Nat.{ℕ, _+_, _≤_, _<_}
 use mathlib.Core.Path.{_≡_, sym, ap, _∙_}
 use mathlib.Core.List.{List}
@@ -16,20 +15,26 @@ use Rattle.members.specs.Members.{Linked, Heads}
 
 -- ---- from one member to the next
 
+-- s is a member of class c, or n
+pub record Standing (P : List ℕ) (n c s : ℕ) : Type 0 where
+  pub inside : s ≤ n
+  pub member : s < n → at P s ≡ c
+
+pub at-head : (P : List ℕ) (n c : ℕ) → Heads P n c → Standing P n c c
+at-head P n c head = record { inside = omega (arith, head .inside); member = λ _. head .member }
+
 -- b is the next member of class c behind a, or n
 pub record Hop (P : List ℕ) (n c a b : ℕ) : Type 0 where
   pub after : a < b
-  pub inside : b ≤ n
-  pub member : b < n → at P b ≡ c
+  pub stands : Standing P n c b
   pub gap : (x : ℕ) → a < x → x < b → at P x ≡ c → ⊥
 
-pub hop : (P : List ℕ) (n : ℕ) (next : List ℕ) → Linked P n next → (c a b : ℕ) → a < n → at P a ≡ c → b ≡ at next a
+pub hop : (P : List ℕ) (n : ℕ) (next : List ℕ) → Linked P n next → (c a b : ℕ) → Standing P n c a → a < n → b ≡ at next a
     → Hop P n c a b
-hop P n next r c a b h e k = rw k record {
+hop P n next r c a b here h k = rw k record {
   after = r .behind a h;
-  inside = r .inside a h;
-  member = λ l. r .same a h l ∙ e;
-  gap = λ x l u q. r .between a x h l u (q ∙ sym e);
+  stands = record { inside = r .inside a h; member = λ l. r .same a h l ∙ here .member h };
+  gap = λ x l u q. r .between a x h l u (q ∙ sym (here .member h));
 }
 
 -- what holds below a, at a and between a and b holds below b
@@ -81,7 +86,8 @@ chained-none P n next nearest e q = rw q record {
   first = λ c u h l k. absurd (omega (arith, getD-replicate 256 c n 0 h));
 }
 
-module _ (P : List ℕ) (n : ℕ) (next nearest : List ℕ) (s c : ℕ) (r : Chained P n next nearest (s + 1)) (h : s < 256) (e : c ≡ at P s) (l : c < 256) where
+module _ (P : List ℕ) (n : ℕ) (next nearest : List ℕ) (s c : ℕ) (r : Chained P n next nearest (s + 1)) (h : s < 256)
+    (e : c ≡ at P s) (l : c < 256) where
   abbrev next′ : List ℕ
   next′ = set next s (at nearest c)
 
@@ -125,11 +131,15 @@ module _ (P : List ℕ) (n : ℕ) (next nearest : List ℕ) (s c : ℕ) (r : Cha
         (λ m b i q. r .first c u l (omega arith) (rw here at i) (q ∙ sym e))
         (λ z b m a i. r .between t u b m a (rw (there t z) at i));
     from = λ d k. this-or-other (λ d. s ≤ at nearest′ d) d (omega (arith, near)) (λ z. omega (arith, far d z, r .from d k));
-    until = λ d k. test (ltb s n) (λ q. this-or-other (λ d. at nearest′ d ≤ n) d (omega (arith, near, ltb-true s n q)) (λ z. rw (far d z) (r .until d k)))
+    until = λ d k. test (ltb s n)
+        (λ q. this-or-other (λ d. at nearest′ d ≤ n) d (omega (arith, near, ltb-true s n q)) (λ z. rw (far d z) (r .until d k)))
         (λ q. absurd (omega (arith, ltb-false s n q, r .from c l, r .until c l)));
-    named = λ d k. this-or-other (λ d. at nearest′ d < n → at P (at nearest′ d) ≡ d) d (λ i. ap (at P) near ∙ sym e) (λ z i. ap (at P) (far d z) ∙ r .named d k (rw (far d z) at i));
+    named = λ d k. this-or-other (λ d. at nearest′ d < n → at P (at nearest′ d) ≡ d) d
+        (λ i. ap (at P) near ∙ sym e)
+        (λ z i. ap (at P) (far d z) ∙ r .named d k (rw (far d z) at i));
     first = λ d u k b. this-or-other (λ d. u < at nearest′ d → at P u ≡ d → ⊥) d (λ i q. omega (arith, near))
-        (λ z i q. at-or-behind (λ u. u < at nearest d → at P u ≡ d → ⊥) u b (λ _ w. z (sym w ∙ sym e)) (λ _ y i. r .first d u k y i) (rw (far d z) at i) q);
+        (λ z i q. at-or-behind (λ u. u < at nearest d → at P u ≡ d → ⊥) u b
+        (λ _ w. z (sym w ∙ sym e)) (λ _ y i. r .first d u k y i) (rw (far d z) at i) q);
   }
 
 pub chained-all : (P : List ℕ) (n : ℕ) (next nearest : List ℕ) (s : ℕ) → Chained P n next nearest s → s ≤ 0 → Linked P n next

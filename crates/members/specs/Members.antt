@@ -1,4 +1,4 @@
--- The members of classes: class names stand in a list that may be longer than the n states, and members follow each other by links.
+-- The members of classes: names stand in a list that may be longer than the n states, and members follow each other by links.
 -- Assumes nothing.
 use Prim.Native.Nat.{ℕ, _≤_, _<_}
 use mathlib.Core.Path.{_≡_}

@@ -15,7 +15,7 @@ use Rattle.meaning.specs.Classes.{parted, first}
 use Rattle.meaning.specs.ClassesLaws.{Named, pair, name-own}
 use Rattle.conflicts.proofs.Laws.{and-false, any-empty}
 use Rattle.members.specs.Members.{Heads}
-use Rattle.members.proofs.Laws.{Hop, through}
+use Rattle.members.proofs.Laws.{Standing, Hop, at-head, through}
 use Rattle.pairs.specs.Pairs.{against, opposed, foundOf}
 use Rattle.pairs.specs.declared.Found.{Found}
 use Rattle.pairs.specs.declared.Found.the-variants.{Pair, Nothing}
@@ -60,7 +60,8 @@ module _ (clashes : ℕ → ℕ → Bool) (P : List ℕ) (c : ℕ) where
   found-none n h = rw (le-ltb _ _ (least-empty (opposed n clashes P c) n h))
 
   found-here : (n a b : ℕ) → a < n → b < n → at P a ≡ c → against clashes P c a b ≡ true
-      → ((x : ℕ) → x < a → opposed n clashes P c x ≡ false) → ((x : ℕ) → x < b → against clashes P c a x ≡ false) → Pair a b ≡ foundOf n clashes P c
+      → ((x : ℕ) → x < a → opposed n clashes P c x ≡ false) → ((x : ℕ) → x < b → against clashes P c a x ≡ false)
+      → Pair a b ≡ foundOf n clashes P c
   unfolding foundOf
   found-here n a b l m e k ha hb =
       let first : least (opposed n clashes P c) n ≡ a = least-is (opposed n clashes P c) n a l (opposed-here n a b m e k) ha in
@@ -72,41 +73,37 @@ module _ (clashes : ℕ → ℕ → Bool) (P : List ℕ) (c : ℕ) where
   module _ (n : ℕ) where
     -- a is a member, or n, and no state before it conflicts with a later member
     pub record Outer (found : Found) (a : ℕ) : Type 0 where
-      pub inside : a ≤ n
-      pub member : a < n → at P a ≡ c
+      pub stands : Standing P n c a
       pub nothing : found ≡ Nothing
       pub past : (x : ℕ) → x < a → opposed n clashes P c x ≡ false
 
     -- b is a later member, or n, and a conflicts with no member between
     pub record Inner (a : ℕ) (found : Found) (b : ℕ) : Type 0 where
-      pub inside : b ≤ n
-      pub member : b < n → at P b ≡ c
+      pub stands : Standing P n c b
       pub after : a < b
       pub nothing : found ≡ Nothing
       pub past : (x : ℕ) → x < b → against clashes P c a x ≡ false
 
     pub outer-begun : Heads P n c → Outer Nothing c
     outer-begun head = record {
-      inside = omega (arith, head .inside);
-      member = λ _. head .member;
+      stands = at-head P n c head;
       nothing = refl;
       past = λ x h. opposed-other n x (head .before x h);
     }
 
     pub inner-begun : (found : Found) (a b : ℕ) → Outer found a → Hop P n c a b → Inner a found b
     inner-begun found a b out next = record {
-      inside = next .inside;
-      member = next .member;
+      stands = next .stands;
       after = next .after;
       nothing = out .nothing;
-      past = through _ a b (λ x h. against-low a x (omega arith)) (against-low a a (omega arith)) (λ x h l. against-other a x (next .gap x h l));
+      past = through _ a b
+          (λ x h. against-low a x (omega arith)) (against-low a a (omega arith)) (λ x h l. against-other a x (next .gap x h l));
     }
 
     pub inner-more : (found found′ : Found) (a b b′ : ℕ) → Inner a found b → found′ ≡ Nothing → clashes a b ≡ false
         → Hop P n c b b′ → Inner a found′ b′
     inner-more found found′ a b b′ there none calm next = record {
-      inside = next .inside;
-      member = next .member;
+      stands = next .stands;
       after = omega (arith, next .after, there .after);
       nothing = none;
       past = through _ b b′ (there .past) (against-calm a b calm) (λ x h l. against-other a x (next .gap x h l));
@@ -115,10 +112,10 @@ module _ (clashes : ℕ → ℕ → Bool) (P : List ℕ) (c : ℕ) where
     pub outer-more : (found found′ : Found) (a a′ b : ℕ) → Outer found a → Inner a found′ b → n ≤ b → Hop P n c a a′
         → Outer found′ a′
     outer-more found found′ a a′ b out there all next = record {
-      inside = next .inside;
-      member = next .member;
+      stands = next .stands;
       nothing = there .nothing;
-      past = through _ a a′ (out .past) (opposed-calm n a (λ x h. there .past x (omega arith))) (λ x h l. opposed-other n x (next .gap x h l));
+      past = through _ a a′
+          (out .past) (opposed-calm n a (λ x h. there .past x (omega arith))) (λ x h l. opposed-other n x (next .gap x h l));
     }
 
     pub outer-all : (found : Found) (a : ℕ) → Outer found a → n ≤ a → found ≡ foundOf n clashes P c
@@ -127,7 +124,8 @@ module _ (clashes : ℕ → ℕ → Bool) (P : List ℕ) (c : ℕ) where
     pub inner-found : (found found′ : Found) (a b : ℕ) → Outer found a → Inner a found′ b → a < n → b < n → clashes a b ≡ true
         → Pair a b ≡ foundOf n clashes P c
     inner-found found found′ a b out there ha hb hit =
-        found-here n a b ha hb (out .member ha) (against-here a b (there .after) (there .member hb) hit) (out .past) (there .past)
+        let against-b = against-here a b (there .after) (there .stands .member hb) hit in
+        found-here n a b ha hb (out .stands .member ha) against-b (out .past) (there .past)
 
   -- ---- what is found tells whether the class is parted
 
@@ -147,7 +145,8 @@ module _ (clashes : ℕ → ℕ → Bool) (P : List ℕ) (c : ℕ) where
             let l = w .ascend in
             let i = w .inside in
             let calm = least-none (opposed n clashes P c) n (w .lower) (ltb-false lowest n e) (omega arith) in
-            let some = opposed-here n (w .lower) (w .higher) (w .inside) (w .lower-in) (against-here (w .lower) (w .higher) (w .ascend) (w .higher-in) (w .clashes)) in
+            let later = against-here (w .lower) (w .higher) (w .ascend) (w .higher-in) (w .clashes) in
+            let some = opposed-here n (w .lower) (w .higher) (w .inside) (w .lower-in) later in
             no-both some calm
 
     parted-here : (a b : ℕ) → b < n → eqb (at P a) c ≡ true → against clashes P c a b ≡ true → parted n clashes P c ≡ true
@@ -177,7 +176,8 @@ module _ (clashes : ℕ → ℕ → Bool) (P : List ℕ) (c : ℕ) where
 -- only the names of states count
 pub parted-front : (n : ℕ) (clashes : ℕ → ℕ → Bool) (P : List ℕ) (c : ℕ) → parted n clashes P c ≡ parted n clashes (take n P) c
 unfolding parted
-parted-front n clashes P c = any-cong _ _ n (λ t h. ap₂ _&&_ (same t h) (any-cong _ _ t (λ s l. ap (λ (b : Bool). b && clashes s t) (same s (omega arith)))))
+parted-front n clashes P c = any-cong _ _ n
+    (λ t h. ap₂ _&&_ (same t h) (any-cong _ _ t (λ s l. ap (λ (b : Bool). b && clashes s t) (same s (omega arith)))))
   where
     same : (s : ℕ) → s < n → eqb (at P s) c ≡ eqb (at (take n P) s) c
     same s h = ap (λ (k : ℕ). eqb k c) (sym (at-take P n s h))

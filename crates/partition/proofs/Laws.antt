@@ -159,7 +159,8 @@ module _ (n : ℕ) (P : List ℕ) (c : ℕ) (G : List ℕ) where
               let alone = r .known g l .absent z in
               let here : at firsts′ g ≡ s = ap (λ (k : List ℕ). at k g) u ∙ getD-set-same firsts g s 0 (omega (arith, r .wide)) in
               rw here
-              (named s (renamed-here P c G s n s h e (and-intro (eq-eqb (at P s) c e) (eq-eqb g g refl)) (none-before s alone)) firsts′
+              (named s
+              (renamed-here P c G s n s h e (and-intro (eq-eqb (at P s) c e) (eq-eqb g g refl)) (none-before s alone)) firsts′
               (ap (λ (k : List ℕ). length k) u ∙ length-set firsts g s ∙ r .wide)
               (λ d k. test (eqb d g)
               (λ y. let same : d ≡ g = eqb-true d g y in rw (same, here) record {
@@ -184,7 +185,8 @@ module _ (n : ℕ) (P : List ℕ) (c : ℕ) (G : List ℕ) where
               let o = w .of z in
               let b = w .before z in
               let f = at firsts g in
-              named f (renamed-here P c G s n f (omega arith) e (and-intro (eq-eqb (at P f) c (o .0)) (eq-eqb (at G f) g (o .1))) (none-before f (w .least z))) firsts (r .wide)
+              let mates = and-intro (eq-eqb (at P f) c (o .0)) (eq-eqb (at G f) g (o .1)) in
+              named f (renamed-here P c G s n f (omega arith) e mates (none-before f (w .least z))) firsts (r .wide)
               (λ d k. test (eqb d g)
               (λ y. let same : d ≡ g = eqb-true d g y in rw same record {
                 absent = λ q. absurd (z q);

@@ -11,11 +11,12 @@ use lib.ListN.{length, take}
 use borrow.Author.Tests.{le-ltb, lt-ltb, eqb-true, eqb-false}
 use Rattle.meaning.specs.Search.{least, tab, at}
 use Rattle.meaning.specs.SearchLaws.{least-ok, least-cong, tab-cong, count-cong, at-take, any-cong}
-use Rattle.meaning.specs.Classes.{Task, Classes, initial, parted, first, free, groups, split, round, chosen, begin, cut, run, reduction, named, classes}
+use Rattle.meaning.specs.Classes.{Task, Classes, initial, parted, first, free, groups, split, named, classes}
+use Rattle.meaning.specs.Classes.{round, chosen, begin, cut, run, reduction}
 use Rattle.meaning.specs.Cases.{test, no-both}
 use Rattle.meaning.specs.ClassesLaws.{Named, groups-apart}
 use Rattle.meaning.specs.Reduced.{Grouping, apart, conflict, taskOver}
-use Rattle.meaning.specs.Reduction.{Fair, Kept, initial-good, cut-kept, classes-some, classes-max}
+use Rattle.meaning.specs.Reduction.{Fair, Good, Kept, initial-good, cut-kept, classes-some, classes-max}
 use Rattle.table.specs.Table.{Table, look}
 use Rattle.conflicts.specs.Conflicts.{clash}
 use Rattle.conflicts.proofs.Laws.{clash-labels}
@@ -31,7 +32,13 @@ pub task-labels : (live : ℕ → Bool) (group : Grouping) (T : Table) (hues : L
     → ((s y t : ℕ) → look T s y ≡ some t → y < m)
     → taskOf live group T hues n ≡ taskOver live group (look T) (at hues) m n
 task-labels live group T hues m n few below = ap
-    (λ (f : List ℕ → ℕ → ℕ → Bool). record { size = n; live = live; colour = at hues; conflict = f; group = λ mem clash. group mem clash n })
+    (λ (f : List ℕ → ℕ → ℕ → Bool). record {
+      size = n;
+      live = live;
+      colour = at hues;
+      conflict = f;
+      group = λ mem clash. group mem clash n;
+    })
     (clash-labels T m few below)
 
 -- ---- only the names of states count
@@ -51,19 +58,22 @@ module _ (n : ℕ) (clashes : ℕ → ℕ → Bool) (P : List ℕ) where
   unfolding groups free
   groups-front c zero h = refl
   groups-front c (suc k) h =
-      let before : groups (λ s. eqb (at P s) c) clashes k ≡ groups (λ s. eqb (at front s) c) clashes k = groups-front c k (omega arith) in
       let G = groups (λ s. eqb (at front s) c) clashes k in
+      let before : groups (λ s. eqb (at P s) c) clashes k ≡ G = groups-front c k (omega arith) in
       let chosen : free (λ s. eqb (at P s) c) clashes G k ≡ free (λ s. eqb (at front s) c) clashes G k =
-      least-cong _ _ k (λ g l. ap not (any-cong _ _ k (λ t u. ap (λ (b : Bool). b && (clashes t k && eqb (at G t) g)) (same c t (omega arith))))) in
+      least-cong _ _ k (λ g l. ap not
+      (any-cong _ _ k (λ t u. ap (λ (b : Bool). b && (clashes t k && eqb (at G t) g)) (same c t (omega arith))))) in
       ap₂ (λ (w : List ℕ) (v : ℕ). w ++ (v ∷ [])) before
-      (ap₂ (λ (b : Bool) (v : ℕ). elim b as (λ x. ℕ) [ true ↦ v | false ↦ 0 ]) (same c k (omega arith)) (ap (λ (w : List ℕ). free (λ s. eqb (at P s) c) clashes w k) before ∙ chosen))
+      (ap₂ (λ (b : Bool) (v : ℕ). elim b as (λ x. ℕ) [ true ↦ v | false ↦ 0 ]) (same c k (omega arith))
+      (ap (λ (w : List ℕ). free (λ s. eqb (at P s) c) clashes w k) before ∙ chosen))
 
   split-front : (c : ℕ) (G : List ℕ) → split n P c G ≡ split n front c G
   unfolding split
   split-front c G = tab-cong n _ _ λ s h.
       ap₂ (λ (b : Bool) (v : ℕ). elim b as (λ x. ℕ) [ true ↦ v | false ↦ at P s ]) (same c s h)
       (least-cong _ _ n (λ t l. ap (λ (b : Bool). b && eqb (at G t) (at G s)) (same c t l)))
-      ∙ ap (λ (v : ℕ). elim (eqb (at front s) c) as (λ x. ℕ) [ true ↦ least (λ t. eqb (at front t) c && eqb (at G t) (at G s)) n | false ↦ v ]) (sym (at-take P n s h))
+      ∙ ap (λ (v : ℕ). elim (eqb (at front s) c) as (λ x. ℕ)
+      [ true ↦ least (λ t. eqb (at front t) c && eqb (at G t) (at G s)) n | false ↦ v ]) (sym (at-take P n s h))
 
   rounded-front : (c : ℕ) → rounded groups n clashes P c ≡ rounded groups n clashes front c
   unfolding rounded
@@ -89,6 +99,10 @@ module _ (T : Table) (n : ℕ) (inside : (s y t : ℕ) → look T s y ≡ some t
 
 -- ---- the run
 
+both : {P P′ : List ℕ} {k k′ : ℕ} → P ≡ P′ → k ≡ k′
+    → _≡_ {A = Classes} (record { names = P; rounds = k }) (record { names = P′; rounds = k′ })
+both p q = ap₂ {C = Classes} (λ (P : List ℕ) (k : ℕ). record { names = P; rounds = k }) p q
+
 module _ (T : Table) (hues : List ℕ) (n : ℕ) where
   abbrev task : Task
   task = taskOf everyone groups T hues n
@@ -110,7 +124,11 @@ module _ (T : Table) (hues : List ℕ) (n : ℕ) where
 
   module _ (lent : Reducible T hues n) where
     fair : Fair task
-    fair = record { small = omega (arith, lent .few); somebody = (0, lent .somebody, refl); proper = λ mem clashes. groups-apart mem clashes n }
+    fair = record {
+      small = omega (arith, lent .few);
+      somebody = (0, lent .somebody, refl);
+      proper = λ mem clashes. groups-apart mem clashes n;
+    }
 
     chosen-front : (P : List ℕ) → first n (clash T P) P ≡ chosen task (take n P)
     unfolding chosen
@@ -120,7 +138,8 @@ module _ (T : Table) (hues : List ℕ) (n : ℕ) where
     round-front : (P : List ℕ) (c : ℕ) → rounded groups n (clash T P) P c ≡ round task (take n P) c
     unfolding rounded round
     round-front P c =
-        ap (λ (f : ℕ → ℕ → Bool). rounded groups n f P c) (clash-front T n (lent .inside) P) ∙ rounded-front n (clash T (take n P)) P c
+        ap (λ (f : ℕ → ℕ → Bool). rounded groups n f P c) (clash-front T n (lent .inside) P)
+        ∙ rounded-front n (clash T (take n P)) P c
 
     initial-twins : initial task ≡ tab n (twin hues n)
     unfolding initial twin
@@ -136,11 +155,14 @@ module _ (T : Table) (hues : List ℕ) (n : ℕ) where
       rest = n;
       counted = omega (arith, h .rounds);
       goes = ap (run n task) same;
-      kept = subst (Kept task 1) same (record { good = initial-good task fair; bound = omega (arith, classes-some task fair (initial task) (initial-good task fair)) });
+      kept = subst (Kept task 1) same (record { good = good; bound = omega (arith, classes-some task fair (initial task) good) });
     }
       where
+        good : Good task (initial task)
+        good = initial-good task fair
+
         same : begin task ≡ now Q
-        same = ap₂ {C = Classes} (λ (P : List ℕ) (k : ℕ). record { names = P; rounds = k }) (initial-twins ∙ sym (h .names)) (sym (h .rounds))
+        same = both (initial-twins ∙ sym (h .names)) (sym (h .rounds))
 
     module _ (Q : Partition) (r : Running Q) where
       -- few rounds are made
@@ -169,7 +191,9 @@ module _ (T : Table) (hues : List ℕ) (n : ℕ) where
       running-heads c e l =
           let P = Q .names in
           let hit : parted n (clash T P) P c ≡ true = rw e (least-ok (parted n (clash T P) P) n (omega (arith, e))) in
-          heads n P running-named c l (test (eqb (at P c) c) (λ q. eqb-true _ _ q) (λ q. no-both hit (parted-own n (clash T P) P running-named c l (eqb-false _ _ q))))
+          heads n P running-named c l (test (eqb (at P c) c)
+          (λ q. eqb-true _ _ q)
+          (λ q. no-both hit (parted-own n (clash T P) P running-named c l (eqb-false _ _ q))))
 
       pub running-on : (R : Partition) (c : ℕ) → c ≡ taken Q → c < n
           → Holds R n (rounded groups n (clash T (Q .names)) (Q .names) c) (Q .rounds + 1) → Running R
@@ -183,7 +207,7 @@ module _ (T : Table) (hues : List ℕ) (n : ℕ) where
           after = h .names ∙ round-front (Q .names) c ∙ ap (round task (take n (Q .names))) here
 
           cutting : cut task (now Q) (chosen task (take n (Q .names))) ≡ now R
-          cutting = ap₂ {C = Classes} (λ (P : List ℕ) (k : ℕ). record { names = P; rounds = k }) (sym after) (sym (h .rounds ∙ add-one (Q .rounds)))
+          cutting = both (sym after) (sym (h .rounds ∙ add-one (Q .rounds)))
 
           go : (f : ℕ) → Q .rounds + f ≡ n → reduction task ≡ run f task (now Q) → Running R
           go zero k g = absurd (omega (arith, running-low))

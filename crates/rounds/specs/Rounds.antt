@@ -12,8 +12,8 @@ use Rattle.meaning.specs.Reduced.{Grouping, taskOver}
 use Rattle.table.specs.Table.{Table, look, Rows}
 use Rattle.rounds.specs.declared.Ending.{Ending}
 
--- What is reduced: n states of which some take part, with a way of grouping, edges in a table, which has no label past the 64, and
--- colours. `task-labels` says that m labels are enough where a filter has no more.
+-- What is reduced: n states of which some take part, with a way of grouping, edges in a table, which has no label past the 64,
+-- and colours. `task-labels` says that m labels are enough where a filter has no more.
 abbrev pub taskOf : (ℕ → Bool) → Grouping → Table → List ℕ → ℕ → Task
 taskOf live group T hues n = taskOver live group (look T) (at hues) 64 n
 

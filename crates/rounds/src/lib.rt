@@ -1,7 +1,7 @@
 // The classes of a filter's states, split round by round until no class has a conflicting pair.
+ghost use Rattle.meaning.specs.Classes.{groups};
 ghost use Rattle.table.specs.Table.{table};
 ghost use Rattle.rounds.specs.Rounds.{Reducible, taskOf, everyone, Settled};
-ghost use Rattle.meaning.specs.Classes.{groups};
 
 // The classes at the end, and how many there were at the beginning: one a colour.
 pub struct Ending {

@@ -27,10 +27,12 @@ element-write-next : tie.Need-element-write-next Inv-loop μ-loop
 element-write-next c = omega (arith, c .before .before .before .loop .inv .0, c .before .before .before .loop .inv .1 .long)
 
 loop-again : tie.Need-loop-again Inv-loop μ-loop
-loop-again c = let loop = c .before .before .before .loop in
-    let one : loop .s ≡ (loop .s - 1) + 1 = omega arith in (
+loop-again c =
+    let loop = c .before .before .before .loop in
+    let one : loop .s ≡ (loop .s - 1) + 1 = omega arith in
+    let low : loop .s - 1 < 256 = omega (arith, loop .inv .0, c .before .before .before .before .before .pre .few) in (
       omega (arith, loop .inv .0),
-      chained-more _ _ (loop .next) (loop .nearest) (loop .s - 1) (c .wide .result) (rw one at (loop .inv .1)) (omega (arith, loop .inv .0, c .before .before .before .before .before .pre .few)) (c .wide .ensures) (name-low c),
+      chained-more _ _ _ _ (loop .s - 1) _ (rw one at (loop .inv .1)) low (c .wide .ensures) (name-low c),
     )
 
 returns : tie.Need-returns Inv-loop μ-loop

@@ -1,13 +1,14 @@
--- `pairs::pair_in` meets its contract. The invariants: no member before a conflicts with a later one, nor a with one before b, and
--- no label that is tried parts a and b. Assumes nothing.
+-- `pairs::pair_in` meets its contract. The invariants: no member before a conflicts with a later one, nor a with one before b,
+-- and no label that is tried parts a and b. Assumes nothing.
 use Prim.Native.Nat.{_-_}
 use borrow.Author.Needs.{needs}
 use native.Mathlib.Omega.{arith}
 use mathlib.Core.Path.{_≡_}
+use denote.Ref.{now}
 use Rattle.table.specs.Table.{table}
 use Rattle.conflicts.specs.Conflicts.{clash}
 use Rattle.conflicts.proofs.Laws.{Calm, calm-begun, calm-more, calm-broken, calm-all}
-use Rattle.members.proofs.Laws.{hop}
+use Rattle.members.proofs.Laws.{Hop, hop}
 use Rattle.pairs.specs.declared.Found.the-variants.{Nothing}
 use Rattle.pairs.proofs.Laws.{Outer, Inner, outer-begun, inner-begun, inner-more, outer-more, outer-all, inner-found}
 use Rattle.pairs.proofs.pair_in.Statement.{statement}
@@ -39,7 +40,8 @@ loop-holds : tie.Need-loop-holds Inv-loop2 μ-loop2 Inv-loop μ-loop Inv-search 
 loop-holds c =
     let search = c .before .before .before in
     let here = c .before .before .search-test .taken in
-    let next = hop _ _ _ (search .before .before .before .pre .0 .linked) _ (search .search .a) _ here (search .search .inv .member here) (c .wide .ensures) in
+    let linked = search .before .before .before .pre .0 .linked in
+    let next = hop _ _ _ linked _ _ _ (search .search .inv .stands) here (c .wide .ensures) in
     inner-begun _ _ _ _ _ _ _ (search .search .inv) next
 
 loop2-holds : tie.Need-loop2-holds Inv-loop2 μ-loop2 Inv-loop μ-loop Inv-search μ-search
@@ -56,38 +58,48 @@ loop2-again c =
     let right = c .before .before .before .target2 .ensures .0 in
     (inv .0, calm-more _ _ _ _ _ _ _ _ (inv .1) lowest left right _ (c .without-lowest .ensures .1) (c .before .if1 .left))
 
-loop-less : tie.Need-loop-less Inv-loop2 μ-loop2 Inv-loop μ-loop Inv-search μ-search
-loop-less c =
-    let tried = c .before .before .before in
-    let loop = tried .before .before .before .before .before in
-    let here = tried .before .before .before .before .loop-test .taken in
+-- from b to the next member
+behind-b : (c : tie.After-wide2 Inv-loop2 μ-loop2 Inv-loop μ-loop Inv-search μ-search)
+    → let loop = c .before .before .before .before .before .before .before .before in
+    let a = loop .before .before .before .before .before .before .before .args in
+    Hop (now (a .names)) (a .n) (a .c) (loop .loop .b) (c .wide2 .result)
+behind-b c =
+    let loop = c .before .before .before .before .before .before .before .before in
     let linked = loop .before .before .before .before .before .before .before .pre .0 .linked in
-    let next = hop _ _ _ linked _ (loop .loop .b) _ here (loop .loop .inv .member here) (c .wide2 .ensures) in
-    omega (arith, next .after, next .inside)
+    let here = c .before .before .before .before .before .before .before .loop-test .taken in
+    hop _ _ _ linked _ _ _ (loop .loop .inv .stands) here (c .wide2 .ensures)
+
+loop-less : tie.Need-loop-less Inv-loop2 μ-loop2 Inv-loop μ-loop Inv-search μ-search
+loop-less c = let next = behind-b c in
+    omega (arith, next .after, next .stands .inside)
 
 loop-again : tie.Need-loop-again Inv-loop2 μ-loop2 Inv-loop μ-loop Inv-search μ-search
 loop-again c =
     let tried = c .before .before .before in
     let loop = tried .before .before .before .before .before in
-    let here = tried .before .before .before .before .loop-test .taken in
-    let linked = loop .before .before .before .before .before .before .before .pre .0 .linked in
-    let next = hop _ _ _ linked _ (loop .loop .b) _ here (loop .loop .inv .member here) (c .wide2 .ensures) in
     let calm = calm-all _ _ _ _ _ (tried .loop2 .inv .1) (omega (arith, c .before .before .loop2-test .left)) in
-    inner-more _ _ _ _ _ _ _ _ _ (loop .loop .inv) (tried .loop2 .inv .0) calm next
+    inner-more _ _ _ _ _ _ _ _ _ (loop .loop .inv) (tried .loop2 .inv .0) calm (behind-b c)
+
+-- and from a
+behind-a : (c : tie.After-wide3 Inv-loop2 μ-loop2 Inv-loop μ-loop Inv-search μ-search)
+    → let search = c .before .before .before .before .before .before .before in
+    let a = search .before .before .before .args in
+    Hop (now (a .names)) (a .n) (a .c) (search .search .a) (c .wide3 .result)
+behind-a c =
+    let search = c .before .before .before .before .before .before .before in
+    let linked = search .before .before .before .pre .0 .linked in
+    let here = c .before .before .before .before .before .before .search-test .taken in
+    hop _ _ _ linked _ _ _ (search .search .inv .stands) here (c .wide3 .ensures)
 
 search-less : tie.Need-search-less Inv-loop2 μ-loop2 Inv-loop μ-loop Inv-search μ-search
-search-less c =
-    let search = c .before .before .before .before .before .before .before in
-    let here = c .before .before .before .before .before .before .search-test .taken in
-    let next = hop _ _ _ (search .before .before .before .pre .0 .linked) _ (search .search .a) _ here (search .search .inv .member here) (c .wide3 .ensures) in
-    omega (arith, next .after, next .inside)
+search-less c = let next = behind-a c in
+    omega (arith, next .after, next .stands .inside)
 
 search-again : tie.Need-search-again Inv-loop2 μ-loop2 Inv-loop μ-loop Inv-search μ-search
 search-again c =
-    let search = c .before .before .before .before .before .before .before in
-    let here = c .before .before .before .before .before .before .search-test .taken in
-    let next = hop _ _ _ (search .before .before .before .pre .0 .linked) _ (search .search .a) _ here (search .search .inv .member here) (c .wide3 .ensures) in
-    outer-more _ _ _ _ _ _ _ _ _ (search .search .inv) (c .before .before .before .loop .inv) (c .before .before .loop-test .left) next
+    let loop = c .before .before .before in
+    let search = loop .before .before .before .before in
+    outer-more _ _ _ _ _ _ _ _ _ (search .search .inv) (loop .loop .inv) (c .before .before .loop-test .left) (behind-a c)
 
 returns : tie.Need-returns Inv-loop2 μ-loop2 Inv-loop μ-loop Inv-search μ-search
 returns c = outer-all _ _ _ _ _ _ (c .before .search .inv) (c .search-test .left)

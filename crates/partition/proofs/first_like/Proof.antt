@@ -28,7 +28,9 @@ loop-again : tie.Need-loop-again Inv-loop μ-loop
 loop-again c = (omega arith, below-more _ _ (c .before .before .before .before .loop .inv .1) (ne-eqb _ _ (c .if1 .left)))
 
 returns-2 : tie.Need-returns-2 Inv-loop μ-loop
-returns-2 c = λ n h. let e : c .before .loop .t ≡ c .before .before .args .s = omega arith in twin-here _ n _ _ (omega arith) (rw e) (c .before .loop .inv .1)
+returns-2 c = λ n h.
+    let e : c .before .loop .t ≡ c .before .before .args .s = omega arith in
+    twin-here _ n _ _ (omega arith) (rw e) (c .before .loop .inv .1)
 
 pub first-like-spec : {M : Type 1} → statement M
 first-like-spec =

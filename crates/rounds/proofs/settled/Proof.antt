@@ -6,7 +6,8 @@ use mathlib.Core.Path.{_≡_, sym, ap, _∙_}
 use lib.ListN.{length}
 use Rattle.meaning.specs.Classes.{Classes}
 use Rattle.table.specs.Table.{table}
-use Rattle.rounds.proofs.Run.{Running, running-begins, running-on, running-low, running-named, running-linkable, running-searched, running-heads, running-ends, classes-begin}
+use Rattle.rounds.proofs.Run.{Running, running-begins, running-on, running-ends, classes-begin}
+use Rattle.rounds.proofs.Run.{running-low, running-named, running-linkable, running-searched, running-heads}
 use Rattle.rounds.proofs.settled.Statement.{statement}
 use Rattle.rounds.proofs.settled.Tie as tie
 
@@ -53,10 +54,10 @@ loop-again : tie.Need-loop-again Inv-loop μ-loop
 loop-again c =
     let loop = c .before .before .before .before .before .before .before .before .before .before .before in
     let lent = loop .before .before .before .before .before .pre in
-    let run = loop .loop .inv .0 in (
-      running-on _ _ _ lent _ run _ _ (c .before .before .before .first-parted .ensures) (c .before .before .if1 .left) (c .split .ensures),
-      c .before .before .before .before .before .before .before .follow .ensures .long,
-    )
+    let run = loop .loop .inv .0 in
+    let chosen = c .before .before .before .first-parted .ensures in
+    let long = c .before .before .before .before .before .before .before .follow .ensures .long in
+    (running-on _ _ _ lent _ run _ _ chosen (c .before .before .if1 .left) (c .split .ensures), long)
 
 count-requires : tie.Need-count-requires Inv-loop μ-loop
 count-requires c κs =
@@ -68,7 +69,8 @@ returns c =
     let loop = c .before .before .before .before .before .before .before .before .before .before .before .before in
     let lent = loop .before .before .before .before .before .pre in
     let run = loop .loop .inv .0 in
-    let end = running-ends _ _ _ lent _ run _ (c .before .before .before .before .first-parted .ensures) (c .before .before .before .if1 .taken) in
+    let looked = c .before .before .before .before .first-parted .ensures in
+    let end = running-ends _ _ _ lent _ run _ looked (c .before .before .before .if1 .taken) in
     record {
       colours = c .count .ensures .0 ∙ classes-begin _ _ _ lent _ (loop .before .before .initial .ensures);
       long = run .long;
