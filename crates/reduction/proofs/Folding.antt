@@ -31,7 +31,8 @@ use Rattle.loading.proofs.Laws.{look-within}
 use Rattle.reduction.specs.Reducing.{countsOf}
 use Rattle.rounds.specs.Rounds.{taskOf, everyone}
 use Rattle.rounds.proofs.Run.{task-labels}
-use Rattle.merging.specs.Merged.{Within, Names, mergedBy}
+use Rattle.merging.specs.Merged.{Within, mergedBy}
+use Rattle.numbering.specs.Names.{Names}
 use Rattle.merging.specs.Merged as merging
 use Rattle.storing.specs.Stored.{Packable}
 use Rattle.reduction.proofs.Accepted.{reduced-writable, file-shorter}
