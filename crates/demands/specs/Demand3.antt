@@ -179,7 +179,7 @@ reduce-then-trace P usable file found left c bytes hr ys room room′ ht r other
     let accepts = f .checks .1 in
     let R = reduced (filterIn P file) in
     let w = reduced-writable P usable (filterIn P file) (writable P usable file bytes us accepts) in
-    let is : take (c .length) (left .answer) ≡ reducedFile file =
+    let is : take (c .length) (left .answer) ≡ reducedFile P file =
     ap (take (c .length)) (f .room) ∙ take-at (reducedFile P file) (drop (length (reducedFile P file)) (found .answer)) (c .length) (length-written P usable R w ∙ sym (f .length-is)) in
     let labels : labelsIn P (reducedFile P file) ≡ labelsIn P file = holds P usable file bytes us accepts .labels-are ∙ labels-kept P file in
     let kept = reduced-file-traces P usable file bytes us accepts ys (t .traces) in
