@@ -24,10 +24,10 @@ use Rattle.checking.specs.declared.Checked.{Checked}
 use Rattle.checking.specs.Promise.{checkedOutcome}
 use Rattle.table.specs.Table.{Table, table}
 use Rattle.loading.proofs.Laws.{look-within}
+use Rattle.observed.specs.Observed.{firstOutside}
+use Rattle.observed.proofs.Laws.{all-inside}
 use Rattle.tracing.specs.Answers.{rideOutcome}
-use Rattle.tracing.specs.Tracing.{firstOutside}
 use Rattle.tracing.specs.Riding.{Stand}
-use Rattle.tracing.proofs.Laws.{all-inside}
 use Rattle.tracing.proofs.Calls.{trace-refused, trace-short, trace-label, trace-ridden}
 use Rattle.tracing.proofs.trace_with.Statement.{statement}
 use Rattle.tracing.proofs.trace_with.Tie as tie
