@@ -115,9 +115,6 @@ returns-4 c =
 colours-of-requires : tie.Need-colours-of-requires
 colours-of-requires c κs = let told = c .before .before .before .before in (started told .pre .usable, is-read told .states-are)
 
-slice-aggregate-ride-through : tie.Need-slice-aggregate-ride-through
-slice-aggregate-ride-through c = sym (c .before .colours-of .ensures .long)
-
 ride-through-requires : tie.Need-ride-through-requires
 ride-through-requires c κs =
     let hues = c .before .before in
@@ -176,7 +173,7 @@ trace-with-spec =
     (λ c κs. search needs)
     returns-4
     colours-of-requires
-    slice-aggregate-ride-through
+    (λ c. search needs)
     ride-through-requires
     (λ c. search needs)
     returns-5)
