@@ -60,7 +60,9 @@ is-read c = reading-is (P c) (file c) (reading c) (sym (started c .pre .answer) 
 
 -- the rooms are long enough
 roomy : (c : tie.Else2) → ltb 65535 (length (observations (c .before .before))) || ltb (length (room (c .before .before))) (length (observations (c .before .before)) + 1) ≡ false
-roomy c = rw (le-ltb _ _ (c .before .if1 .left), le-ltb _ _ (c .if2 .left))
+roomy c =
+    let told = c .before .before in
+    rw (le-ltb _ _ (c .before .if1 .left), le-ltb (length (room told)) (length (observations told) + 1) (omega arith))
 
 -- what the labels' test found, by the file's own number of labels
 outside : (c : tie.After-first-outside) → firstOutside (labelsIn (P (c .before .before .before)) (file (c .before .before .before))) (observations (c .before .before .before))
