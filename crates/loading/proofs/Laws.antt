@@ -183,7 +183,7 @@ look-within P ok file vs T h is a y t e =
 -- ---- colours
 
 -- zeros behind a list are what reading past its end gives
-padded : (xs : List ℕ) (n k : ℕ) → at (xs ++ drop n (replicate k 0)) ≡ at xs
+pub padded : (xs : List ℕ) (n k : ℕ) → at (xs ++ drop n (replicate k 0)) ≡ at xs
 padded xs n k = fun-ext λ s. go s (decLt s (length xs))
   where
     zeros : (k n s : ℕ) → _≡_ {A = ℕ} (getD (drop n (replicate k 0)) s 0) 0

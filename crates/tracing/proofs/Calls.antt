@@ -14,10 +14,11 @@ use Rattle.refusals.specs.declared.Refusal.{Refusal}
 use Rattle.layout.specs.Contents.{labelsIn, filterIn}
 use Rattle.refusals.specs.Refusals.{accepted, refusalOutcome, laid, roomAfter}
 use Rattle.files.specs.Files.{checkOf}
+use Rattle.observed.specs.Observed.{firstOutside}
 use Rattle.tracing.specs.declared.Traced.{Traced}
 use Rattle.tracing.specs.declared.Traced.the-variants as traced
 use Rattle.tracing.specs.Answers.{rideOutcome, tracedOutcome}
-use Rattle.tracing.specs.Tracing.{firstOutside, traceOf}
+use Rattle.tracing.specs.Tracing.{traceOf}
 use Rattle.tracing.specs.Promise.{TracePromise}
 
 after-ride : (o : Option ℕ) (bytes room : List ℕ) → roomAfter (rideOutcome o) bytes room ≡ laid bytes room

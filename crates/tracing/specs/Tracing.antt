@@ -4,32 +4,19 @@ use Prim.Native.Nat.{ℕ, _+_}
 use mathlib.Core.Bool.{_||_}
 use mathlib.Core.List.{List, [], _∷_}
 use mathlib.Core.Option.{Option, none, some}
-use lib.Dec.{leb, ltb}
+use lib.Dec.{ltb}
 use lib.ListN.{length}
-use Rattle.meaning.specs.Pick.{pick}
-use Rattle.meaning.specs.Trace.{later, stops}
+use Rattle.meaning.specs.Trace.{stops}
 use Rattle.layout.specs.declared.Profile.{Profile}
 use Rattle.layout.specs.Contents.{labelsIn, filterIn}
 use Rattle.refusals.specs.Refusals.{Outcome, refused, Test, test, firstOf, onward}
 use Rattle.files.specs.Files.{checkOf}
+use Rattle.observed.specs.Observed.{firstOutside}
 use Rattle.tracing.specs.Answers.{rideOutcome}
 
 -- 12: more than 65,535 observations, or colour room below observations + 1.
 abbrev pub traceTests : List ℕ → ℕ → List Test
 traceTests observations room = test 12 (ltb 65535 (length observations) || ltb room (length observations + 1)) ∷ []
-
--- The index of the first observation that is m or more.
-unfoldable pub firstOutside : ℕ → List ℕ → Option ℕ
-firstOutside m [] = none
-firstOutside m (y ∷ ys) = pick (leb m y) (some 0) (later (firstOutside m ys))
-
-abbrev pub larger : ℕ → ℕ → ℕ
-larger x y = pick (ltb x y) y x
-
--- The largest of a list, 0 of none.
-unfoldable pub largest : List ℕ → ℕ
-largest [] = 0
-largest (y ∷ ys) = larger y (largest ys)
 
 -- 13, its place the index of the first such observation.
 abbrev pub labelsThen : Option ℕ → Outcome → Outcome

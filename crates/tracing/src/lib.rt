@@ -4,16 +4,11 @@ use layout::Profile;
 use refusals::Kind;
 use refusals::Refusal;
 ghost use mathlib.Core.Path.{_≡_};
-ghost use mathlib.Core.Option.{none, some};
 ghost use Prim.Native.Nat.{_+_, _<_};
-ghost use lib.Dec.{ltb};
-ghost use lib.ListN.{length};
-ghost use Rattle.meaning.specs.Pick.{pick};
 ghost use Rattle.layout.specs.Layout.{large};
 ghost use Rattle.table.specs.Table.{table, look, Rows};
 ghost use Rattle.loading.specs.Loading.{Loadable, Tabled};
 ghost use Rattle.tracing.specs.Answers.{stepCourse, courseOf};
-ghost use Rattle.tracing.specs.Tracing.{firstOutside, largest};
 ghost use Rattle.tracing.specs.Promise.{TracePromise};
 ghost use Rattle.tracing.specs.Riding.{Ridable, Ridden};
 
@@ -94,7 +89,7 @@ fn trace_with(
     if colours.len() < count + 1 {
         return refused(Kind::Room, 0);
     }
-    let outside = first_outside(reading.labels, observations);
+    let outside = observed::first_outside(reading.labels, observations);
     if outside < count {
         return refused(Kind::Observation, outside);
     }
@@ -107,49 +102,6 @@ fn refused(kind: Kind, place: usize) -> Traced
     ensures { λ r. ⌜ r ≡ Traced.Refused (record { kind = kind; place = place }) ⌝ }
 {
     Traced::Refused(Refusal { kind, place })
-}
-
-// The index of the first observation that is m or more, or how many there are.
-fn first_outside(m: usize, observations: &[u8]) -> usize
-    ensures { λ r. ⌜ firstOutside m (now (observations .entry)) ≡
-        pick (ltb r (length (now (observations .entry)))) (some r) none ⌝ }
-{
-    // The largest is found many at a time, a first one only one by one.
-    if arrays::wide_byte(largest(observations)) < m {
-        return observations.len();
-    }
-    sought_outside(m, observations)
-}
-
-// The same, one by one.
-fn sought_outside(m: usize, observations: &[u8]) -> usize
-    ensures { λ r. ⌜ firstOutside m (now (observations .entry)) ≡
-        pick (ltb r (length (now (observations .entry)))) (some r) none ⌝ }
-{
-    let mut i = 0;
-    while i < observations.len() {
-        if m <= arrays::wide_byte(observations[i]) {
-            return i;
-        }
-        i += 1;
-    }
-    i
-}
-
-// The largest of the values, 0 if there is none. It never leaves early, so that the compiler can take many values at a time.
-fn largest(values: &[u8]) -> u8
-    ensures { λ r. ⌜ r ≡ largest (now (values .entry)) ⌝ }
-{
-    let mut most = 0;
-    let mut i = 0;
-    while i < values.len() {
-        let value = values[i];
-        if most < value {
-            most = value;
-        }
-        i += 1;
-    }
-    most
 }
 
 // A ride in progress: the current state and the observations taken.

@@ -1,7 +1,7 @@
 -- `loading::load_as` meets its contract: a refusal before the edges is the answer, and otherwise the first fault of the edges
 -- decides. The invariant: no edge before the cursor has a fault, and the table has these edges. Assumes nothing.
-use mathlib.Core.Path.{_≡_, refl, ap, sym, _∙_}
-use Prim.Native.Nat.{ℕ, _-_, _≤_, _<_}
+use mathlib.Core.Path.{refl, ap, sym, _∙_}
+use Prim.Native.Nat.{_-_, _≤_}
 use native.Mathlib.Omega.{arith}
 use borrow.Author.Needs.{needs}
 use denote.Ref.{now}
@@ -10,7 +10,7 @@ use Rattle.layout.proofs.Bounds.{states-high, count-high, begin-high}
 use Rattle.edges.proofs.Walks.{walk-near, walk-faulty, walk-done}
 use Rattle.files.specs.Tests.{HeadIs, head-is, head-refused, check-faulty}
 use Rattle.checking.specs.Promise.{checkedOutcome}
-use Rattle.table.specs.Table.{table, Rows}
+use Rattle.table.specs.Table.{table}
 use Rattle.loading.proofs.Laws.{Filling, filling-begun, filling-room, filling-next, filling-done, loaded-refused, loaded-accepted}
 use Rattle.loading.proofs.load_as.Statement.{statement}
 use Rattle.loading.proofs.load_as.Tie as tie
@@ -95,12 +95,6 @@ loop-again c =
     let next = rw (onto .step2 .given .1) at (stepped .step .ensures) in
     filling-next _ _ _ _ _ _ _ _ _ (stepped .before .before .before .loop .inv) _ (next .0) (next .1) (stepped .before .if1 .taken) _ (put .put .ensures)
 
-same-length : tie.Need-same-length Inv-loop μ-loop
-same-length c = c .before .before .before .before .before .before .loop .inv .rows .targets-same
-
-same-length-2 : tie.Need-same-length-2 Inv-loop μ-loop
-same-length-2 c = c .before .before .before .before .before .before .loop .inv .rows .labels-same
-
 returns-2 : tie.Need-returns-2 Inv-loop μ-loop
 returns-2 c =
     let stepped = c .before .before .before in
@@ -110,12 +104,6 @@ returns-2 c =
     (check-faulty _ _ _ (is-headed (told loop)) _ refl why
     (walk-faulty _ _ _ _ _ _ _ (loop .loop .inv .walked) (stepped .before .if1 .taken) _ (rw (c .before .step3 .given .1) at (stepped .step .ensures))))
     (loop .loop .inv .rows)
-
-same-length-3 : tie.Need-same-length-3 Inv-loop μ-loop
-same-length-3 c = c .before .before .loop .inv .rows .targets-same
-
-same-length-4 : tie.Need-same-length-4 Inv-loop μ-loop
-same-length-4 c = c .before .before .loop .inv .rows .labels-same
 
 returns-3 : tie.Need-returns-3 Inv-loop μ-loop
 returns-3 c =
@@ -142,9 +130,9 @@ load-as-spec =
     loop-less
     loop-again
     (λ c. search needs)
-    same-length
-    same-length-2
+    (λ c. search needs)
+    (λ c. search needs)
     returns-2
-    same-length-3
-    same-length-4
+    (λ c. search needs)
+    (λ c. search needs)
     returns-3)

@@ -1,9 +1,9 @@
 -- `tracing::ride_through` meets its contract. The invariant: a ride in progress, as the laws have it. Assumes nothing.
-use mathlib.Core.Path.{_≡_, ap, sym, _∙_}
+use mathlib.Core.Path.{ap, sym, _∙_}
 use Prim.Native.Nat.{_-_}
 use native.Mathlib.Omega.{arith}
 use borrow.Author.Needs.{needs}
-use lib.ListN.{length, length-set}
+use lib.ListN.{length}
 use Rattle.table.specs.Table.{table}
 use Rattle.tracing.specs.Answers.{stepCourse}
 use Rattle.tracing.proofs.Laws.{Underway, underway-begins, underway-on, underway-stops, underway-ends}
@@ -23,20 +23,11 @@ started c = c .before .before .before .before .before .before
 loop-holds : tie.Need-loop-holds Inv-loop μ-loop
 loop-holds c = underway-begins _ _ _ _ _ (c .before .before .before .before .before .pre .begins)
 
-shared-slice-read-room : tie.Need-shared-slice-read-room Inv-loop μ-loop
-shared-slice-read-room c = c .before .before .loop .inv .stand .coloured
-
-slice-write-room : tie.Need-slice-write-room Inv-loop μ-loop
-slice-write-room c = let loop = c .before .before in omega (arith, started loop .pre .roomy, loop .loop .inv .same)
-
 step-requires : tie.Need-step-requires Inv-loop μ-loop
 step-requires c κs =
     let loop = c .before .before .before .before in
     let pre = started loop .pre in
     (omega (arith, c .wide-byte .ensures .0, pre .labels (loop .loop .i)), omega (arith, loop .loop .inv .taken, pre .few), loop .loop .inv .stand .row)
-
-same-length : tie.Need-same-length Inv-loop μ-loop
-same-length c = simp length-set (c .before .before .before .before .before .before .before .loop .inv .same)
 
 returns : tie.Need-returns Inv-loop μ-loop
 returns c =
@@ -54,15 +45,6 @@ loop-again c =
     underway-on _ _ _ _ _ (started loop .pre) _ _ _ (loop .loop .inv) (test .loop-test .taken) _ (step .before .wide-byte .ensures .0) _
     (sym (ap stepCourse (c .before .step2 .given .1)) ∙ step .step .ensures)
 
-shared-slice-read-room-2 : tie.Need-shared-slice-read-room-2 Inv-loop μ-loop
-shared-slice-read-room-2 c = c .before .before .loop .inv .stand .coloured
-
-slice-write-room-2 : tie.Need-slice-write-room-2 Inv-loop μ-loop
-slice-write-room-2 c = let loop = c .before .before in omega (arith, started loop .pre .roomy, loop .loop .inv .same, loop .loop .inv .within)
-
-same-length-2 : tie.Need-same-length-2 Inv-loop μ-loop
-same-length-2 c = simp length-set (c .before .before .loop .inv .same)
-
 returns-2 : tie.Need-returns-2 Inv-loop μ-loop
 returns-2 c =
     let loop = c .before .before in
@@ -75,19 +57,19 @@ ride-through-spec =
     Inv-loop
     μ-loop
     loop-holds
-    shared-slice-read-room
-    slice-write-room
+    (λ c. search needs)
+    (λ c. search needs)
     (λ c. search needs)
     (λ c κs. search needs)
     step-requires
     (λ c. search needs)
     (λ c. search needs)
-    same-length
+    (λ c. search needs)
     returns
     (λ c. search needs)
     (λ c. search needs)
     loop-again
-    shared-slice-read-room-2
-    slice-write-room-2
-    same-length-2
+    (λ c. search needs)
+    (λ c. search needs)
+    (λ c. search needs)
     returns-2)

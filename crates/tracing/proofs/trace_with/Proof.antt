@@ -24,10 +24,10 @@ use Rattle.checking.specs.declared.Checked.{Checked}
 use Rattle.checking.specs.Promise.{checkedOutcome}
 use Rattle.table.specs.Table.{Table, table}
 use Rattle.loading.proofs.Laws.{look-within}
+use Rattle.observed.specs.Observed.{firstOutside}
+use Rattle.observed.proofs.Laws.{all-inside}
 use Rattle.tracing.specs.Answers.{rideOutcome}
-use Rattle.tracing.specs.Tracing.{firstOutside}
 use Rattle.tracing.specs.Riding.{Stand}
-use Rattle.tracing.proofs.Laws.{all-inside}
 use Rattle.tracing.proofs.Calls.{trace-refused, trace-short, trace-label, trace-ridden}
 use Rattle.tracing.proofs.trace_with.Statement.{statement}
 use Rattle.tracing.proofs.trace_with.Tie as tie
@@ -60,7 +60,9 @@ is-read c = reading-is (P c) (file c) (reading c) (sym (started c .pre .answer) 
 
 -- the rooms are long enough
 roomy : (c : tie.Else2) → ltb 65535 (length (observations (c .before .before))) || ltb (length (room (c .before .before))) (length (observations (c .before .before)) + 1) ≡ false
-roomy c = rw (le-ltb _ _ (c .before .if1 .left), le-ltb _ _ (c .if2 .left))
+roomy c =
+    let told = c .before .before in
+    rw (le-ltb _ _ (c .before .if1 .left), le-ltb (length (room told)) (length (observations told) + 1) (omega arith))
 
 -- what the labels' test found, by the file's own number of labels
 outside : (c : tie.After-first-outside) → firstOutside (labelsIn (P (c .before .before .before)) (file (c .before .before .before))) (observations (c .before .before .before))
@@ -114,9 +116,6 @@ returns-4 c =
 
 colours-of-requires : tie.Need-colours-of-requires
 colours-of-requires c κs = let told = c .before .before .before .before in (started told .pre .usable, is-read told .states-are)
-
-slice-aggregate-ride-through : tie.Need-slice-aggregate-ride-through
-slice-aggregate-ride-through c = sym (c .before .colours-of .ensures .long)
 
 ride-through-requires : tie.Need-ride-through-requires
 ride-through-requires c κs =
@@ -176,7 +175,7 @@ trace-with-spec =
     (λ c κs. search needs)
     returns-4
     colours-of-requires
-    slice-aggregate-ride-through
+    (λ c. search needs)
     ride-through-requires
     (λ c. search needs)
     returns-5)

@@ -1,4 +1,4 @@
--- `tracing::largest` meets its contract. The invariant: the largest is that of the values so far or of those left. Assumes nothing.
+-- `observed::largest` meets its contract. The invariant: the largest is that of the values so far or of those left. Assumes nothing.
 use mathlib.Core.Path.{_≡_, sym, _∙_}
 use mathlib.Core.Logic.{⊎-elim}
 use Prim.Native.Nat.{_-_, _≤_}
@@ -6,10 +6,10 @@ use native.Mathlib.Omega.{arith}
 use borrow.Author.Tests.{lt-ltb, le-ltb}
 use denote.Ref.{now}
 use lib.ListN.{length, getD, drop}
-use Rattle.tracing.specs.Tracing.{larger, largest}
-use Rattle.tracing.proofs.Laws.{largest-start, largest-next, largest-end}
-use Rattle.tracing.proofs.largest.Statement.{statement}
-use Rattle.tracing.proofs.largest.Tie as tie
+use Rattle.observed.specs.Observed.{larger, largest}
+use Rattle.observed.proofs.Laws.{largest-start, largest-next, largest-end}
+use Rattle.observed.proofs.largest.Statement.{statement}
+use Rattle.observed.proofs.largest.Tie as tie
 
 abbrev Inv-loop : tie.InvT-loop
 Inv-loop values most₀ i₀ most i = (i ≤ length values) × (largest values ≡ larger most (largest (drop i values)))

@@ -1,12 +1,12 @@
--- `tracing::first_outside` meets its contract: where the largest observation is below m, none is m or more. Assumes nothing.
+-- `observed::first_outside` meets its contract: where the largest observation is below m, none is m or more. Assumes nothing.
 use native.Mathlib.Omega.{arith}
 use borrow.Author.Needs.{needs}
 use borrow.Author.Tests.{le-ltb}
 use denote.Ref.{now}
 use lib.ListN.{length}
-use Rattle.tracing.proofs.Laws.{largest-inside}
-use Rattle.tracing.proofs.first_outside.Statement.{statement}
-use Rattle.tracing.proofs.first_outside.Tie as tie
+use Rattle.observed.proofs.Laws.{largest-inside}
+use Rattle.observed.proofs.first_outside.Statement.{statement}
+use Rattle.observed.proofs.first_outside.Tie as tie
 
 returns : tie.Need-returns
 returns c =

@@ -1,4 +1,4 @@
--- `tracing::sought_outside` meets its contract. The invariant: the observations not yet tested decide. Assumes nothing.
+-- `observed::sought_outside` meets its contract. The invariant: the observations not yet tested decide. Assumes nothing.
 use mathlib.Core.Path.{_≡_, _∙_}
 use Prim.Native.Nat.{_-_, _≤_}
 use native.Mathlib.Omega.{arith}
@@ -6,10 +6,10 @@ use borrow.Author.Needs.{needs}
 use borrow.Author.Tests.{lt-ltb, le-ltb}
 use denote.Ref.{now}
 use lib.ListN.{length, drop}
-use Rattle.tracing.specs.Tracing.{firstOutside}
-use Rattle.tracing.proofs.Laws.{from, outside-start, outside-here, outside-next, outside-end}
-use Rattle.tracing.proofs.sought_outside.Statement.{statement}
-use Rattle.tracing.proofs.sought_outside.Tie as tie
+use Rattle.observed.specs.Observed.{firstOutside}
+use Rattle.observed.proofs.Laws.{from, outside-start, outside-here, outside-next, outside-end}
+use Rattle.observed.proofs.sought_outside.Statement.{statement}
+use Rattle.observed.proofs.sought_outside.Tie as tie
 
 abbrev Inv-loop : tie.InvT-loop
 Inv-loop m observations i₀ i = (i ≤ length observations) × (firstOutside m observations ≡ from i (firstOutside m (drop i observations)))
