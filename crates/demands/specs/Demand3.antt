@@ -32,7 +32,8 @@ use Rattle.files.specs.Written.{Holds, length-written, written-holds, length-fi
 use Rattle.tracing.specs.declared.Traced.{Traced}
 use Rattle.tracing.specs.declared.Traced.the-variants as traced
 use Rattle.tracing.specs.Answers.{rideOutcome}
-use Rattle.tracing.specs.Tracing.{firstOutside, labelsThen, traceOf}
+use Rattle.observed.specs.Observed.{firstOutside}
+use Rattle.tracing.specs.Tracing.{labelsThen, traceOf}
 use Rattle.tracing.specs.Promise.{TracePromise}
 use Rattle.tracing.proofs.Unique.{traced-one}
 use Rattle.reduction.specs.declared.Counts.{Counts}

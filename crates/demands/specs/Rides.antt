@@ -16,7 +16,8 @@ use Rattle.layout.specs.Contents.{statesIn, labelsIn, startIn, countIn, colours
 use Rattle.refusals.specs.Refusals.{Outcome, accepted, refused, roomAfter}
 use Rattle.edges.specs.Faults.{edgeFault, firstFault}
 use Rattle.files.specs.Files.{fileTests, checkOf}
-use Rattle.tracing.specs.Tracing.{firstOutside, traceOf}
+use Rattle.observed.specs.Observed.{firstOutside}
+use Rattle.tracing.specs.Tracing.{traceOf}
 use Rattle.reduction.specs.Reducing.{rooms, countsOf, reduceOf}
 
 -- The bytes of a file; a refusal, or n, m, start and e; of an accepted file its colours, its edges as bytes, and the bytes that

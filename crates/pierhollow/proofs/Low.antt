@@ -26,7 +26,8 @@ use Rattle.files.specs.Written.{length-edges-in}
 use Rattle.refusals.proofs.Laws.{Passed}
 use Rattle.files.specs.Tests.{held}
 use Rattle.tracing.specs.Answers.{rideOutcome}
-use Rattle.tracing.specs.Tracing.{traceTests, firstOutside, labelsThen, traceOf}
+use Rattle.tracing.specs.Tracing.{traceTests, labelsThen, traceOf}
+use Rattle.observed.specs.Observed.{firstOutside}
 use Rattle.reduction.specs.Reducing.{reduceTests, reduceOf}
 use Rattle.reduction.specs.Reducing as reduction
 use Rattle.unpacking.specs.Promise as unpacking
