@@ -1,6 +1,6 @@
 // Checking a filter file.
 use edges::Cursor;
-use edges::Step;
+use edges::Verdict;
 use layout::Profile;
 use layout::Reading;
 use refusals::Kind;
@@ -38,10 +38,13 @@ fn check_as(p: Profile, answer: Checked, file: &[u8]) -> Checked
     let e = r.edges;
     let mut cursor = Cursor::begin(layout::edges_begin(p, n));
     while cursor.index < e {
-        let step = cursor.step(p, file, n, m);
-        match step {
-            Step::Onward(next) => cursor = next,
-            Step::Faulty(why) => return Checked::Refused(why),
+        let next = cursor.next(p, file);
+        let before = cursor.before;
+        let edge = next.before;
+        let verdict = edges::test(n, m, cursor.index, before, edge);
+        match verdict {
+            Verdict::Faultless => cursor = next,
+            Verdict::Faulty(why) => return Checked::Refused(why),
         }
     }
     Checked::Accepted(r)
@@ -68,11 +71,11 @@ fn headed_as(p: Profile, file: &[u8]) -> Checked
     if file.len() < layout::bytes_for(layout::header_bits(p)) {
         return refused(Kind::TooShort);
     }
-    let r = layout::header::read(p, file);
-    let n = r.states;
-    let m = r.labels;
-    let e = r.edges;
-    if n <= r.start {
+    let reading = layout::header::read(p, file);
+    let n = reading.states;
+    let m = reading.labels;
+    let e = reading.edges;
+    if n <= reading.start {
         return refused(Kind::Start);
     }
     if n * m < e {
@@ -89,7 +92,7 @@ fn headed_as(p: Profile, file: &[u8]) -> Checked
     if bits::get(file, bits, length * 8 - bits) != 0 {
         return refused(Kind::Filling);
     }
-    Checked::Accepted(r)
+    Checked::Accepted(reading)
 }
 
 // The refusal of a check that refused, for a call that ends with it.

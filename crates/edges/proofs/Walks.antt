@@ -35,6 +35,12 @@ module _ (P : Profile) (file : List ℕ) (at e n m : ℕ) where
         left = rw z;
       }
 
+  -- what the test of the edge that was read finds is the fault of the edge that the cursor stood before
+  pub fault-tested : (c c′ : Cursor) → Next P file c c′ → (v : Option Fault) →
+      v ≡ faultAt (c .index) (edgeFault n m (edgeBefore (eqb (c .index) 0) (c .before)) (edgeOf (c′ .before))) none → faultNext P file n m c ≡ v
+  fault-tested c c′ next v h =
+      sym (h ∙ ap (λ (e : meaning.Edge). faultAt (c .index) (edgeFault n m (edgeBefore (eqb (c .index) 0) (c .before)) e) none) (next .edge))
+
   module _ (c : Cursor) (w : Walked P file at e n m c) where
     -- the cursor's numbers are small enough for the next step's
     pub walk-near : Usable P → at ≤ 2096 → e ≤ 65536 → (c .place < 2 ^ 63) × (c .index < 2 ^ 63)

@@ -17,8 +17,6 @@ use Rattle.layout.specs.Code.{edgeOf, Small}
 use Rattle.edges.specs.declared.Verdict.{Verdict}
 use Rattle.edges.specs.declared.Verdict.the-variants as verdict
 use Rattle.edges.specs.declared.Cursor.{Cursor}
-use Rattle.edges.specs.declared.Step.{Step}
-use Rattle.edges.specs.declared.Step.the-variants as step
 use Rattle.edges.specs.Faults.{Fault, edgeFault, faultAt, firstFault}
 
 -- The edge before one; `true`: the first edge, which has none before it.
@@ -44,11 +42,6 @@ pub record Next (P : Profile) (file : List ℕ) (c c′ : Cursor) : Type 0 where
   pub place : c′ .place ≡ c .place + edgeBits P
   pub index : c′ .index ≡ c .index + 1
   pub small : Small (c′ .before)
-
--- What a step makes of a cursor: the next one where the edge has no fault, and else the fault.
-abbrev pub Stepped : Profile → List ℕ → ℕ → ℕ → Cursor → Step → Type 0
-Stepped P file n m c (step.Onward c′) = Next P file c c′ × (faultNext P file n m c ≡ none)
-Stepped P file n m c (step.Faulty why) = faultNext P file n m c ≡ faultIs why
 
 -- A walk over e edges from bit `at` on has come to a cursor without a fault: the first fault is that of the edges left.
 pub record Walked (P : Profile) (file : List ℕ) (at e n m : ℕ) (c : Cursor) : Type 0 where

@@ -9,7 +9,7 @@ ghost use Prim.Native.Nat.{_<_, _≤_, _^_};
 ghost use lib.Dec.{eqb};
 ghost use Rattle.layout.specs.Code.{edgeOf, Usable, Small};
 ghost use Rattle.edges.specs.Faults.{edgeFault, faultAt};
-ghost use Rattle.edges.specs.Walk.{edgeBefore, faultOf, Next, Stepped};
+ghost use Rattle.edges.specs.Walk.{edgeBefore, faultOf, Next};
 
 // What the test of an edge finds: none of 7, 8 and 9, or the first of them.
 pub enum Verdict {
@@ -64,12 +64,6 @@ pub struct Cursor {
     pub index: usize,
 }
 
-// What a step of the walk gives: the cursor behind an edge without a fault, or the fault.
-pub enum Step {
-    Onward(Cursor),
-    Faulty(Refusal),
-}
-
 impl Cursor {
     // Before the first edge, which begins at bit `place`.
     pub fn begin(place: usize) -> Cursor
@@ -86,7 +80,7 @@ impl Cursor {
         }
     }
 
-    // One edge further, whatever it is.
+    // One edge further, whatever it is. The test stands in the loops: a step that made both would be too long to be inlined there.
     pub fn next(self, p: Profile, file: &[u8]) -> Cursor
         requires { ⌜ Usable p × (self .place < 2 ^ 63) × (self .index < 2 ^ 63) ⌝ }
         ensures { λ r. ⌜ Next p (now (file .entry)) self r ⌝ }
@@ -97,21 +91,6 @@ impl Cursor {
             before: edge,
             place: place + layout::edge_bits(p),
             index: self.index + 1,
-        }
-    }
-
-    // One edge further, if it has no fault.
-    pub fn step(self, p: Profile, file: &[u8], n: usize, m: usize) -> Step
-        requires { ⌜ Usable p × (self .place < 2 ^ 63) × (self .index < 2 ^ 63) × Small (self .before) ⌝ }
-        ensures { λ r. ⌜ Stepped p (now (file .entry)) n m self r ⌝ }
-    {
-        let onward = self.next(p, file);
-        let before = self.before;
-        let edge = onward.before;
-        let verdict = test(n, m, self.index, before, edge);
-        match verdict {
-            Verdict::Faultless => Step::Onward(onward),
-            Verdict::Faulty(why) => Step::Faulty(why),
         }
     }
 }

@@ -1,7 +1,7 @@
 // A file checked and put into a table in one pass over its edges, and the colours of its states.
 use checking::Checked;
 use edges::Cursor;
-use edges::Step;
+use edges::Verdict;
 use layout::Profile;
 ghost use mathlib.Core.Path.{_≡_};
 ghost use Rattle.layout.specs.Layout.{large};
@@ -49,14 +49,16 @@ fn load_as(
     let e = r.edges;
     let mut cursor = Cursor::begin(layout::edges_begin(p, n));
     while cursor.index < e {
-        let step = cursor.step(p, file, n, m);
-        match step {
-            Step::Onward(next) => {
-                let edge = next.before;
+        let next = cursor.next(p, file);
+        let before = cursor.before;
+        let edge = next.before;
+        let verdict = edges::test(n, m, cursor.index, before, edge);
+        match verdict {
+            Verdict::Faultless => {
                 table::put(targets, labels, edge.source, edge.label, edge.target as u8);
                 cursor = next;
             }
-            Step::Faulty(why) => return Checked::Refused(why),
+            Verdict::Faulty(why) => return Checked::Refused(why),
         }
     }
     Checked::Accepted(r)

@@ -8,8 +8,8 @@ use borrow.Author.Needs.{needs}
 use denote.Ref.{now}
 use Rattle.layout.specs.Layout.{edgesBegin}
 use Rattle.layout.proofs.Bounds.{states-high, count-high, begin-high}
-use Rattle.edges.specs.Walk.{Walked}
-use Rattle.edges.proofs.Walks.{walk-begun, walk-near, walk-next, walk-faulty, walk-done}
+use Rattle.edges.specs.Walk.{faultOf, faultNext, Walked}
+use Rattle.edges.proofs.Walks.{fault-tested, walk-begun, walk-near, walk-next, walk-faulty, walk-done}
 use Rattle.files.specs.Tests.{HeadIs, head-is, head-refused, check-faultless, check-faulty}
 use Rattle.checking.specs.Promise.{checkedOutcome}
 use Rattle.checking.proofs.check_as.Statement.{statement}
@@ -33,6 +33,15 @@ few-states c =
     let start = c .before .before .before .before in
     omega (arith, is-headed c .states-are, states-high (start .args .p) (start .pre .0) (now (start .args .file)))
 
+-- a fault of the edge that the cursor stands before is what the test found
+abbrev told : tie.After-test Inv-loop μ-loop → tie.After-known-told Inv-loop μ-loop
+told c = c .before .before .before .before .before .before .before .before .before
+
+found : (c : tie.After-test Inv-loop μ-loop) →
+    faultNext (told c .before .before .before .before .args .p) (now (told c .before .before .before .before .args .file)) (told c .before .answer .given .0 .0 .states)
+    (told c .before .answer .given .0 .0 .labels) (c .before .before .before .before .before .before .loop .cursor) ≡ faultOf (c .test .result)
+found c = fault-tested _ _ 0 0 _ _ _ _ (c .before .before .before .next .ensures) _ (c .test .ensures)
+
 -- ---- the needs
 
 returns : tie.Need-returns Inv-loop μ-loop
@@ -47,33 +56,31 @@ edges-begin-requires c κs = (c .before .before .before .before .pre .0, few-sta
 loop-holds : tie.Need-loop-holds Inv-loop μ-loop
 loop-holds c = rw (c .begin .ensures, c .before .edges-begin .ensures .0) (walk-begun _ _ _ _ _ _)
 
-step-requires : tie.Need-step-requires Inv-loop μ-loop
-step-requires c κs =
+next-requires : tie.Need-next-requires Inv-loop μ-loop
+next-requires c κs =
     let loop = c .before .before .loop in
     let told = c .before .before .before .before .before in
     let start = told .before .before .before .before in
     let ok = start .pre .0 in
     let near = walk-near _ _ _ _ _ _ _ (loop .inv) ok (begin-high _ ok _ (few-states told)) (omega (arith, is-headed told .count-is, count-high _ ok (now (start .args .file)))) in
-    (ok, near .0, near .1, loop .inv .small)
+    (ok, near .0, near .1)
+
+test-requires : tie.Need-test-requires Inv-loop μ-loop
+test-requires c κs = (c .before .before .before .before .before .loop .inv .small, c .before .before .next .ensures .small)
 
 loop-less : tie.Need-loop-less Inv-loop μ-loop
-loop-less c =
-    let told = c .before .before .before in
-    let next = rw (c .before .step2 .given .1) at (told .step .ensures) in
-    omega (arith, next .0 .index, told .before .if1 .taken)
+loop-less c = let tested = c .before .before in omega (arith, tested .before .before .before .next .ensures .index, tested .before .before .before .before .if1 .taken)
 
 loop-again : tie.Need-loop-again Inv-loop μ-loop
 loop-again c =
-    let told = c .before .before .before in
-    let next = rw (c .before .step2 .given .1) at (told .step .ensures) in
-    walk-next _ _ _ _ _ _ _ (told .before .before .before .loop .inv) (told .before .if1 .taken) _ (next .0) (next .1)
+    let tested = c .before .before in
+    walk-next _ _ _ _ _ _ _ (tested .before .before .before .before .before .before .loop .inv) (tested .before .before .before .before .if1 .taken) _ (tested .before .before .before .next .ensures) (found tested ∙ ap faultOf (c .enum-told2 .given .1))
 
 returns-2 : tie.Need-returns-2 Inv-loop μ-loop
 returns-2 c =
-    let told = c .before .before .before in
-    let begun = told .before .before .before .before .before .before in
-    sym (check-faulty _ _ _ (is-headed begun) _ refl (c .before .step3 .given .0 .0)
-    (walk-faulty _ _ _ _ _ _ _ (told .before .before .before .loop .inv) (told .before .if1 .taken) _ (rw (c .before .step3 .given .1) at (told .step .ensures))))
+    let tested = c .before .before .before in
+    sym (check-faulty _ _ _ (is-headed (tested .before .before .before .before .before .before .before .before .before)) _ refl (c .before .verdict .given .0 .0)
+    (walk-faulty _ _ _ _ _ _ _ (tested .before .before .before .before .before .before .loop .inv) (tested .before .before .before .before .if1 .taken) _ (found tested ∙ ap faultOf (c .before .verdict .given .1))))
 
 returns-3 : tie.Need-returns-3 Inv-loop μ-loop
 returns-3 c =
@@ -93,7 +100,8 @@ check-as-spec =
     edges-begin-requires
     (λ c κs. search needs)
     loop-holds
-    step-requires
+    next-requires
+    test-requires
     (λ c. search needs)
     loop-less
     loop-again

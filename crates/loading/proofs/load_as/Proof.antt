@@ -1,13 +1,14 @@
 -- `loading::load_as` meets its contract: a refusal before the edges is the answer, and otherwise the first fault of the edges
 -- decides. The invariant: no edge before the cursor has a fault, and the table has these edges. Assumes nothing.
-use mathlib.Core.Path.{refl, ap, sym, _∙_}
+use mathlib.Core.Path.{_≡_, refl, ap, sym, _∙_}
 use Prim.Native.Nat.{_-_, _≤_}
 use native.Mathlib.Omega.{arith}
 use borrow.Author.Needs.{needs}
 use denote.Ref.{now}
 use Rattle.layout.specs.Layout.{edgesBegin}
 use Rattle.layout.proofs.Bounds.{states-high, count-high, begin-high}
-use Rattle.edges.proofs.Walks.{walk-near, walk-faulty, walk-done}
+use Rattle.edges.specs.Walk.{faultOf, faultNext}
+use Rattle.edges.proofs.Walks.{fault-tested, walk-near, walk-faulty, walk-done}
 use Rattle.files.specs.Tests.{HeadIs, head-is, head-refused, check-faulty}
 use Rattle.checking.specs.Promise.{checkedOutcome}
 use Rattle.table.specs.Table.{table}
@@ -38,6 +39,13 @@ is-headed c = head-is _ _ _ (sym (started c .pre .0) ∙ ap checkedOutcome (c .b
 few-states : (c : tie.After-known-told Inv-loop μ-loop) → c .before .answer .given .0 .0 .states ≤ 256
 few-states c = omega (arith, is-headed c .states-are, states-high _ (started c .pre .1 .usable) (now (started c .args .file)))
 
+-- a fault of the edge that the cursor stands before is what the test found
+found : (c : tie.After-test Inv-loop μ-loop) →
+    let begun = told (c .before .before .before .before .before .before) in
+    faultNext (started begun .args .p) (now (started begun .args .file)) (begun .before .answer .given .0 .0 .states) (begun .before .answer .given .0 .0 .labels) (c .before .before .before .before .before .before .loop .cursor)
+    ≡ faultOf (c .test .result)
+found c = fault-tested _ _ 0 0 _ _ _ _ (c .before .before .before .next .ensures) _ (c .test .ensures)
+
 -- ---- the needs
 
 returns : tie.Need-returns Inv-loop μ-loop
@@ -54,55 +62,48 @@ edges-begin-requires c κs = (started c .pre .1 .usable, few-states c)
 loop-holds : tie.Need-loop-holds Inv-loop μ-loop
 loop-holds c = rw (c .begin .ensures, c .before .edges-begin .ensures .0) (filling-begun _ _ _ _ _ _ _ (started (c .before .before) .pre .1 .empty))
 
-step-requires : tie.Need-step-requires Inv-loop μ-loop
-step-requires c κs =
+next-requires : tie.Need-next-requires Inv-loop μ-loop
+next-requires c κs =
     let loop = c .before .before .loop in
     let begun = told (c .before .before) in
     let start = started begun in
     let ok = start .pre .1 .usable in
     let near = walk-near _ _ _ _ _ _ _ (loop .inv .walked) ok (begin-high _ ok _ (few-states begun)) (omega (arith, is-headed begun .count-is, count-high _ ok (now (start .args .file)))) in
-    (ok, near .0, near .1, loop .inv .walked .small)
+    (ok, near .0, near .1)
+
+test-requires : tie.Need-test-requires Inv-loop μ-loop
+test-requires c κs = (c .before .before .before .before .before .loop .inv .walked .small, c .before .before .next .ensures .small)
 
 cast-put : tie.Need-cast-put Inv-loop μ-loop
-cast-put c =
-    let onto = c .before .before .before .before .before in
-    let next = rw (onto .step2 .given .1) at (onto .before .before .step .ensures) in
-    let small = next .0 .small in
-    omega arith
+cast-put c = record { fits = c .before .before .before .before .before .before .before .before .next .ensures .small .target }
 
 put-requires : tie.Need-put-requires Inv-loop μ-loop
 put-requires c κs =
-    let onto = c .before .before .before .before .before in
-    let stepped = onto .before .before in
-    let next = rw (onto .step2 .given .1) at (stepped .step .ensures) in
-    let loop = stepped .before .before .before in
+    let tested = c .before .before .before .before .before in
+    let loop = tested .before .before .before .before .before .before in
     let start = started (told loop) in
     let rows = start .pre .1 .rows in
-    filling-room _ _ _ _ _ _ _ _ _ (loop .loop .inv) _ (next .0) (next .1) (start .pre .1 .labels≤6) (rw (← is-headed (told loop) .states-are) at rows)
+    filling-room _ _ _ _ _ _ _ _ _ (loop .loop .inv) _ (tested .before .before .before .next .ensures) (found tested ∙ ap faultOf (c .before .before .before .enum-told2 .given .1)) (start .pre .1 .labels≤6)
+    (rw (← is-headed (told loop) .states-are) at rows)
 
 loop-less : tie.Need-loop-less Inv-loop μ-loop
-loop-less c =
-    let onto = c .before .before .before .before .before .before .before .before .before .before in
-    let stepped = onto .before .before in
-    let next = rw (onto .step2 .given .1) at (stepped .step .ensures) in
-    omega (arith, next .0 .index, stepped .before .if1 .taken)
+loop-less c = let tested = c .before .before .before .before .before .before .before .before .before .before in omega (arith, tested .before .before .before .next .ensures .index, tested .before .before .before .before .if1 .taken)
 
 loop-again : tie.Need-loop-again Inv-loop μ-loop
 loop-again c =
     let put = c .before .before .before .before in
-    let onto = put .before .before .before .before .before .before in
-    let stepped = onto .before .before in
-    let next = rw (onto .step2 .given .1) at (stepped .step .ensures) in
-    filling-next _ _ _ _ _ _ _ _ _ (stepped .before .before .before .loop .inv) _ (next .0) (next .1) (stepped .before .if1 .taken) _ (put .put .ensures)
+    let tested = put .before .before .before .before .before .before in
+    filling-next _ _ _ _ _ _ _ _ _ (tested .before .before .before .before .before .before .loop .inv) _ (tested .before .before .before .next .ensures) (found tested ∙ ap faultOf (put .before .before .before .before .enum-told2 .given .1)) (tested .before .before .before .before .if1 .taken) _
+    (put .put .ensures)
 
 returns-2 : tie.Need-returns-2 Inv-loop μ-loop
 returns-2 c =
-    let stepped = c .before .before .before in
-    let loop = stepped .before .before .before in
-    let why = c .before .step3 .given .0 .0 in
+    let tested = c .before .before .before in
+    let loop = tested .before .before .before .before .before .before in
+    let why = c .before .verdict .given .0 .0 in
     loaded-refused _ _ _ why _ _ refl
     (check-faulty _ _ _ (is-headed (told loop)) _ refl why
-    (walk-faulty _ _ _ _ _ _ _ (loop .loop .inv .walked) (stepped .before .if1 .taken) _ (rw (c .before .step3 .given .1) at (stepped .step .ensures))))
+    (walk-faulty _ _ _ _ _ _ _ (loop .loop .inv .walked) (tested .before .before .before .before .if1 .taken) _ (found tested ∙ ap faultOf (c .before .verdict .given .1))))
     (loop .loop .inv .rows)
 
 returns-3 : tie.Need-returns-3 Inv-loop μ-loop
@@ -123,7 +124,8 @@ load-as-spec =
     edges-begin-requires
     (λ c κs. search needs)
     loop-holds
-    step-requires
+    next-requires
+    test-requires
     (λ c. search needs)
     cast-put
     put-requires

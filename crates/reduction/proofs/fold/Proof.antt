@@ -81,7 +81,7 @@ returns c =
     let s = now (a .file) in
     record {
       counts = counts-are (a .p) (pre .usable) (pre .labels≤6) s (a .reading) is T (hues .result) (pre .edges) (hues .ensures .colours) _ (ended end) _ _ _ _ (made .1 .1 .0) (settled .colours)
-        (c .wide .ensures ∙ settled .rounds) (made .1 .1 .1);
+          (c .wide .ensures ∙ settled .rounds) (made .1 .1 .1);
       answer = made .0 ∙ ap (λ (F : Filter). laid (written (a .p) F) (now (a .answer))) (filter-is (a .p) (pre .usable) (pre .labels≤6) s (a .reading) is T (hues .result) (pre .edges) (hues .ensures .colours) _ (ended end));
       classes = made .1 .0 ∙ ap (λ (l : List ℕ). laid l (now (a .classes))) (list-is (a .p) (pre .usable) (pre .labels≤6) s (a .reading) is T (hues .result) (pre .edges) (hues .ensures .colours) _ (ended end));
     }
