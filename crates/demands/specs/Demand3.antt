@@ -36,11 +36,12 @@ use Rattle.observed.specs.Observed.{firstOutside}
 use Rattle.tracing.specs.Tracing.{labelsThen, traceOf}
 use Rattle.tracing.specs.Promise.{TracePromise}
 use Rattle.tracing.proofs.Unique.{traced-one}
-use Rattle.reduction.specs.declared.Counts.{Counts}
+use Rattle.folding.specs.declared.Counts.{Counts}
 use Rattle.reduction.specs.declared.Reduced.the-variants as answers
-use Rattle.reduction.specs.Reducing.{Rooms, reduceTests, countsOf, reduceOf}
+use Rattle.folding.specs.Folding.{Rooms, countsOf}
+use Rattle.reduction.specs.Reducing.{reduceTests, reduceOf}
 use Rattle.reduction.specs.Promise.{ReducePromise}
-use Rattle.reduction.proofs.Accepted.{reduced-writable, file-accepted}
+use Rattle.folding.proofs.Accepted.{reduced-writable, file-accepted}
 
 -- The bytes of the reduced file.
 abbrev pub reducedFile : Profile → List ℕ → List ℕ

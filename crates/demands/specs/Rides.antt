@@ -18,7 +18,8 @@ use Rattle.edges.specs.Faults.{edgeFault, firstFault}
 use Rattle.files.specs.Files.{fileTests, checkOf}
 use Rattle.observed.specs.Observed.{firstOutside}
 use Rattle.tracing.specs.Tracing.{traceOf}
-use Rattle.reduction.specs.Reducing.{rooms, countsOf, reduceOf}
+use Rattle.folding.specs.Folding.{rooms, countsOf}
+use Rattle.reduction.specs.Reducing.{reduceOf}
 
 -- The bytes of a file; a refusal, or n, m, start and e; of an accepted file its colours, its edges as bytes, and the bytes that
 -- packing these gives; what reducing it answers, the reduced file, and the new number of each state; and observations with what

@@ -29,7 +29,7 @@ use Rattle.tracing.specs.Answers.{rideOutcome}
 use Rattle.tracing.specs.Tracing.{traceTests, labelsThen, traceOf}
 use Rattle.observed.specs.Observed.{firstOutside}
 use Rattle.reduction.specs.Reducing.{reduceTests, reduceOf}
-use Rattle.reduction.specs.Reducing as reduction
+use Rattle.folding.specs.Folding as folding
 use Rattle.unpacking.specs.Promise as unpacking
 
 -- a refusal of this answer has a small place
@@ -129,6 +129,6 @@ trace-low s ys room = low-onward (checkOf large s) _ (check-low s) (low-first (t
     (λ i e. omega (arith, outside-low (labelsIn large s) ys i e, ltb-false 65535 (length ys) (or-first (ltb 65535 (length ys)) _ (p .0))))
     (low-ride (stops (filterIn large s) ys)))
 
-pub reduce-low : (s : List ℕ) (room : reduction.Rooms) → Low (reduceOf large s room)
+pub reduce-low : (s : List ℕ) (room : folding.Rooms) → Low (reduceOf large s room)
 unfolding reduceOf
 reduce-low s room = low-onward (checkOf large s) _ (check-low s) (low-first (reduceTests large s room) _ (λ _. low-accepted _))

@@ -15,7 +15,7 @@ use Rattle.unpacking.specs.Promise as unpacking
 use Rattle.packing.specs.Promise.{packOf}
 use Rattle.tracing.specs.Tracing.{traceOf}
 use Rattle.reduction.specs.Reducing.{reduceOf}
-use Rattle.reduction.specs.Reducing as reduction
+use Rattle.folding.specs.Folding as folding
 use Rattle.pierhollow.specs.Codes.{Told}
 
 -- Values: n, m, start and e.
@@ -41,7 +41,7 @@ pub record TraceToC (file observations colours values : List ℕ) (r : ℕ) (col
       ≡ roomAfter (traceOf large file observations (length colours)) (shown (filterIn large file) observations) colours
 
 -- Values: states, distinct colours, rounds and the length in bytes.
-pub record ReduceToC (file : List ℕ) (found : reduction.Rooms) (values : List ℕ) (r : ℕ) (left : reduction.Rooms) (values′ : List ℕ) : Type 0 where
+pub record ReduceToC (file : List ℕ) (found : folding.Rooms) (values : List ℕ) (r : ℕ) (left : folding.Rooms) (values′ : List ℕ) : Type 0 where
   pub told : Told (reduceOf large file found) values r values′
   pub answer-after : left .answer ≡ roomAfter (reduceOf large file found) (written large (reduced (filterIn large file))) (found .answer)
   pub classes-after : left .classes ≡ roomAfter (reduceOf large file found) (classList (filterIn large file)) (found .classes)

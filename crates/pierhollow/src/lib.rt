@@ -1,9 +1,9 @@
 // The calls for C. Each returns 0 for accepted, else the refusal's place times 256 plus its number; include/pierhollow.h says which
 // value stands where in the lent array.
 use checking::Checked;
+use folding::Counts;
 use layout::Reading;
 use packing::Packed;
-use reduction::Counts;
 use reduction::Reduced;
 use refusals::Refusal;
 use tracing::Traced;
@@ -13,7 +13,7 @@ ghost use mathlib.Core.List.{_∷_, []};
 ghost use Prim.Native.Nat.{_+_, _*_, _<_};
 ghost use Rattle.refusals.specs.Refusals.{numberOf};
 ghost use Rattle.unpacking.specs.Promise as unpacking;
-ghost use Rattle.reduction.specs.Reducing as reduction;
+ghost use Rattle.folding.specs.Folding as folding;
 ghost use Rattle.pierhollow.specs.Codes.{stored};
 ghost use Rattle.pierhollow.specs.Promise.{CheckToC, UnpackToC, PackToC, TraceToC, ReduceToC};
 
@@ -85,8 +85,8 @@ pub extern "C" fn pierhollow_reduce(
     classes: &mut [u16],
     values: &mut [u64; 4],
 ) -> u64
-    ensures { λ r. ⌜ ReduceToC (now (file .entry)) (reduction.rooms (now (answer .entry)) (now (classes .entry))) (now (values .entry))
-        r (reduction.rooms (now (answer .exit)) (now (classes .exit))) (now (values .exit)) ⌝ }
+    ensures { λ r. ⌜ ReduceToC (now (file .entry)) (folding.rooms (now (answer .entry)) (now (classes .entry))) (now (values .entry))
+        r (folding.rooms (now (answer .exit)) (now (classes .exit))) (now (values .exit)) ⌝ }
 {
     match reduction::reduce(file, answer, classes) {
         Reduced::Accepted(counts) => tell_counts(counts, values),

@@ -1,8 +1,8 @@
 // Reduces the filter file on standard input, and prints its counts and the new number of each state.
 use checking::Checked;
+use folding::Counts;
 use libc::STDIN_FILENO;
 use libc::STDOUT_FILENO;
-use reduction::Counts;
 use reduction::Reduced;
 use refusals::Refusal;
 ghost use Prim.Native.Nat.{_≤_};

@@ -14,10 +14,11 @@ use Rattle.layout.specs.Layout.{written}
 use Rattle.layout.specs.Contents.{statesIn, filterIn}
 use Rattle.refusals.specs.Refusals.{accepted, refusalOutcome, laid}
 use Rattle.files.specs.Files.{checkOf}
-use Rattle.reduction.specs.declared.Counts.{Counts}
+use Rattle.folding.specs.declared.Counts.{Counts}
 use Rattle.reduction.specs.declared.Reduced.the-variants as variants
-use Rattle.reduction.specs.Reducing.{Rooms, reduceOf}
-use Rattle.reduction.specs.Promise.{ReducePromise, Folded}
+use Rattle.folding.specs.Folding.{Rooms, Folded}
+use Rattle.reduction.specs.Reducing.{reduceOf}
+use Rattle.reduction.specs.Promise.{ReducePromise}
 
 module _ (P : Profile) (s : List ℕ) (room : Rooms) where
   -- a refused file ends the call with that same refusal

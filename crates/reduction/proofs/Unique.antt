@@ -9,10 +9,11 @@ use denote.Triple.Clauses.{AtExit}
 use mathlib.Core.Path.{_≡_, ap, sym, _∙_}
 use Rattle.meaning.specs.Cases.{clash}
 use Rattle.refusals.proofs.Laws.{refusal-one}
-use Rattle.reduction.specs.declared.Counts.{Counts}
+use Rattle.folding.specs.declared.Counts.{Counts}
 use Rattle.reduction.specs.declared.Reduced.{Reduced}
 use Rattle.reduction.specs.declared.Reduced.the-variants as reduced
-use Rattle.reduction.specs.Answers.{countsOutcome, reducedOutcome}
+use Rattle.folding.specs.Folding.{countsOutcome}
+use Rattle.reduction.specs.Answers.{reducedOutcome}
 use Rattle.reduction.proofs.reduce as reduce
 use Rattle.reduction.proofs.reduce.Kinds as kinds
 use Rattle.reduction.proofs.reduce.Reads as reads

@@ -4,7 +4,8 @@ use mathlib.Core.List.{List}
 use Prim.Native.Nat.{ℕ}
 use borrow.Author.Needs.{needs}
 use denote.Ref.{now}
-use Rattle.reduction.specs.Reducing.{rooms, reduceOf}
+use Rattle.folding.specs.Folding.{rooms}
+use Rattle.reduction.specs.Reducing.{reduceOf}
 use Rattle.layout.specs.Layout.{large}
 use Rattle.reduction.specs.Answers.{reducedOutcome}
 use Rattle.pierhollow.proofs.Low.{reduce-low}

@@ -5,7 +5,7 @@ use denote.Ref.{now}
 use Rattle.layout.specs.declared.Reading.{Reading}
 use Rattle.files.specs.Tests.{ReadIs}
 use Rattle.checking.proofs.Calls.{refused-is, read-is}
-use Rattle.reduction.specs.Reducing.{Rooms, rooms}
+use Rattle.folding.specs.Folding.{Rooms, rooms}
 use Rattle.reduction.proofs.Calls.{reduce-refused, reduce-short, reduce-few, reduce-folded}
 use Rattle.reduction.proofs.reduce_as.Statement.{statement}
 use Rattle.reduction.proofs.reduce_as.Tie as tie

@@ -28,14 +28,14 @@ use Rattle.files.specs.Tests.{Writable, writable-in-order, writable-write, Read
 use Rattle.files.specs.Written.{length-filter, read-writable}
 use Rattle.table.specs.Table.{Table, look, Rows}
 use Rattle.loading.proofs.Laws.{look-within}
-use Rattle.reduction.specs.Reducing.{countsOf}
+use Rattle.folding.specs.Folding.{countsOf}
 use Rattle.rounds.specs.Rounds.{taskOf, everyone}
 use Rattle.rounds.proofs.Run.{task-labels}
 use Rattle.merging.specs.Merged.{Within, mergedBy}
 use Rattle.numbering.specs.Names.{Names}
 use Rattle.merging.specs.Merged as merging
 use Rattle.storing.specs.Stored.{Packable}
-use Rattle.reduction.proofs.Accepted.{reduced-writable, file-shorter}
+use Rattle.folding.proofs.Accepted.{reduced-writable, file-shorter}
 
 module _ (Q : Profile) (usable : Usable Q) (narrow : Q .labels ≤ 6) (s : List ℕ) (r : Reading) (is : ReadIs Q s r) where
   abbrev F : Filter

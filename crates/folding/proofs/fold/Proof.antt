@@ -1,4 +1,4 @@
--- `reduction::fold` meets its contract. Assumes nothing.
+-- `folding::fold` meets its contract. Assumes nothing.
 use mathlib.Core.Path.{_≡_, sym, ap, _∙_}
 use mathlib.Core.List.{List}
 use Prim.Native.Nat.{ℕ}
@@ -15,9 +15,9 @@ use Rattle.layout.specs.Layout.{written}
 use Rattle.layout.specs.Contents.{filterIn}
 use Rattle.files.specs.Tests.{ReadIs, reading-is}
 use Rattle.table.specs.Table.{Table, table}
-use Rattle.reduction.proofs.Folding.{few-states, some-state, reduce-is, within, filter-is, foldable, list-is, counts-are}
-use Rattle.reduction.proofs.fold.Statement.{statement}
-use Rattle.reduction.proofs.fold.Tie as tie
+use Rattle.folding.proofs.Folding.{few-states, some-state, reduce-is, within, filter-is, foldable, list-is, counts-are}
+use Rattle.folding.proofs.fold.Statement.{statement}
+use Rattle.folding.proofs.fold.Tie as tie
 
 is-read : (c : tie.Start) → ReadIs (c .args .p) (now (c .args .file)) (c .args .reading)
 is-read c = reading-is (c .args .p) (now (c .args .file)) (c .args .reading) (c .pre .answer)
