@@ -8,21 +8,11 @@ use native.Mathlib.Numerals.{add-one}
 use native.Mathlib.Omega.{arith}
 use lib.ListN.{length, getD, take}
 use lib.Seq.{length-take-le, take-suc}
-use Rattle.text.specs.Decimal.{decimal}
-use Rattle.lines.specs.Text.{newline, ended, pairLine, numberLines, pairLines}
+use Rattle.lines.specs.Text.{pairLine, pairLines}
 
 -- the first numbers and one more
-take-more : (ns : List ℕ) (i : ℕ) → i < length ns → take (i + 1) ns ≡ take i ns ++ (getD ns i 0 ∷ [])
+pub take-more : (ns : List ℕ) (i : ℕ) → i < length ns → take (i + 1) ns ≡ take i ns ++ (getD ns i 0 ∷ [])
 take-more ns i h = ap (λ (k : ℕ). take k ns) (add-one i) ∙ take-suc ns i 0 h
-
--- its line behind theirs
-lines-snoc : (ns : List ℕ) (n : ℕ) → numberLines (ns ++ (n ∷ [])) ≡ numberLines ns ++ ended n
-unfolding numberLines
-lines-snoc [] n = append-assoc (decimal n) newline []
-lines-snoc (m ∷ ns) n = ap (λ (l : List ℕ). ended m ++ l) (lines-snoc ns n) ∙ sym (append-assoc (ended m) (numberLines ns) (ended n))
-
-pub lines-more : (ns : List ℕ) (i : ℕ) → i < length ns → numberLines (take i ns) ++ ended (getD ns i 0) ≡ numberLines (take (i + 1) ns)
-lines-more ns i h = sym (ap numberLines (take-more ns i h) ∙ lines-snoc (take i ns) (getD ns i 0))
 
 -- one state's line behind those of the states before it
 pairs-snoc : (s : ℕ) (ks : List ℕ) (k : ℕ) → pairLines s (ks ++ (k ∷ [])) ≡ pairLines s ks ++ pairLine (s + length ks) k

@@ -39,8 +39,8 @@ fn shown(answer: Traced, observations: usize) -> usize
 fn print(answer: Traced, colours: &[u8])
     requires { ⌜ length (now colours) ≤ 65536 ⌝ }
 {
-    let mut text = lines::trace_room();
-    let n = lines::put_trace(&mut text, colours, answer);
+    let mut text = shown::trace_room();
+    let n = shown::put_trace(&mut text, colours, answer);
     // The room is long enough for every such text.
     if n <= 262208 {
         io::write_all(STDOUT_FILENO, &text[0..n]);

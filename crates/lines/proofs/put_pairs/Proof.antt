@@ -33,7 +33,7 @@ loop-again c =
     let loop = turn .before .loop in
     let a = turn .before .before .before .before .args in
     let ks = now (a .numbers) in
-    let pair = same (loop .room) (loop .end) (ap (pairLine (loop .i)) (wide .wide16 .ensures)) (put .put-two .ensures .0) (put .put-two .ensures .1) in
+    let pair = same (loop .room) (loop .end) (ap (pairLine (loop .i)) (wide .wide .ensures)) (put .put-two .ensures .0) (put .put-two .ensures .1) in
     let line =
     both (now (a .room)) (a .at) (pairLines 0 (take (loop .i) ks)) (pairLine (loop .i) (getD ks (loop .i) 0)) (omega arith) (loop .inv .3) (loop .inv .4) (pair .0) (pair .1) in
     let done = same (now (a .room)) (a .at) (pairs-more ks (loop .i) (turn .loop-test .taken)) (line .0) (line .1) in

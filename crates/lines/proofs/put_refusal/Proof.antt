@@ -17,7 +17,7 @@ returns c =
     let number = two .before in
     let word = number .before .before .before .before .before in
     let a = word .before .before .before .before .args in
-    let is = ap (λ (n : ℕ). pairLine n (a .why .place)) (number .wide .ensures .0 ∙ number .before .number .ensures) in
+    let is = ap (λ (n : ℕ). pairLine n (a .why .place)) (number .wide-byte .ensures .0 ∙ number .before .number .ensures) in
     let pair = same (word .put .last .0) (word .put .result) is (two .put-two .ensures .0) (two .put-two .ensures .1) in
     let done =
     both (now (a .room)) (a .at) refusedWord (pairLine (numberOf (a .why .kind)) (a .why .place)) (omega arith) (word .put .ensures .0) (word .put .ensures .1) (pair .0) (pair .1) in

@@ -1,11 +1,11 @@
--- `lines::put_last` meets its contract. Assumes nothing.
+-- `shown::put_last` meets its contract. Assumes nothing.
 use mathlib.Core.Path.{ap, sym}
 use denote.Ref.{now}
 use Rattle.text.proofs.Laws.{same}
-use Rattle.lines.specs.Text.{lastLine}
+use Rattle.shown.specs.Text.{lastLine}
 use borrow.Author.Needs.{needs}
-use Rattle.lines.proofs.put_last.Statement.{statement}
-use Rattle.lines.proofs.put_last.Tie as tie
+use Rattle.shown.proofs.put_last.Statement.{statement}
+use Rattle.shown.proofs.put_last.Tie as tie
 
 returns : tie.Need-returns
 unfolding lastLine

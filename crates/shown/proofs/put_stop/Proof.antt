@@ -1,11 +1,12 @@
--- `lines::put_stop` meets its contract. Assumes nothing.
+-- `shown::put_stop` meets its contract. Assumes nothing.
 use native.Mathlib.Omega.{arith}
 use denote.Ref.{now}
 use Rattle.text.proofs.Laws.{both}
-use Rattle.lines.specs.Text.{ended, stoppedWord}
+use Rattle.lines.specs.Text.{ended}
+use Rattle.shown.specs.Text.{stoppedWord}
 use borrow.Author.Needs.{needs}
-use Rattle.lines.proofs.put_stop.Statement.{statement}
-use Rattle.lines.proofs.put_stop.Tie as tie
+use Rattle.shown.proofs.put_stop.Statement.{statement}
+use Rattle.shown.proofs.put_stop.Tie as tie
 
 returns : tie.Need-returns
 returns c =

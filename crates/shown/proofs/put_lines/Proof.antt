@@ -1,4 +1,4 @@
--- `lines::put_lines` meets its contract. The invariant: the first numbers' lines stand at the room's beginning. Assumes nothing.
+-- `shown::put_lines` meets its contract. The invariant: the first numbers' lines stand at the room's beginning. Assumes nothing.
 use mathlib.Core.Path.{_≡_, refl, ap, _∙_}
 use Prim.Native.Nat.{ℕ, _+_, _*_, _-_, _≤_}
 use native.Mathlib.Nat.{le-antisymm, zero-add}
@@ -8,10 +8,11 @@ use lib.ListN.{length, getD, take}
 use lib.Seq.{take-length}
 use Rattle.text.specs.Decimal.{wrote}
 use Rattle.text.proofs.Laws.{same, both}
-use Rattle.lines.specs.Text.{ended, numberLines}
-use Rattle.lines.proofs.Laws.{lines-more}
-use Rattle.lines.proofs.put_lines.Statement.{statement}
-use Rattle.lines.proofs.put_lines.Tie as tie
+use Rattle.lines.specs.Text.{ended}
+use Rattle.shown.specs.Text.{numberLines}
+use Rattle.shown.proofs.Laws.{lines-more}
+use Rattle.shown.proofs.put_lines.Statement.{statement}
+use Rattle.shown.proofs.put_lines.Tie as tie
 
 abbrev Inv-loop : tie.InvT-loop
 Inv-loop room₀ numbers at₀ i₀ room at i =

@@ -1,10 +1,10 @@
--- `lines::put_trace` meets its contract. Assumes nothing.
+-- `shown::put_trace` meets its contract. Assumes nothing.
 use denote.Ref.{now}
 use Rattle.text.proofs.Laws.{both-front}
-use Rattle.lines.specs.Text.{numberLines, lastLine}
+use Rattle.shown.specs.Text.{numberLines, lastLine}
 use borrow.Author.Needs.{needs}
-use Rattle.lines.proofs.put_trace.Statement.{statement}
-use Rattle.lines.proofs.put_trace.Tie as tie
+use Rattle.shown.proofs.put_trace.Statement.{statement}
+use Rattle.shown.proofs.put_trace.Tie as tie
 
 returns : tie.Need-returns
 returns c =
