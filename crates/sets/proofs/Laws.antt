@@ -41,42 +41,24 @@ even x h = go (x % 2) refl
 
 -- ---- two sets
 
-module _ (d e : ℕ) (hd : d < 2) (he : e < 2) where
-  and-digit : eqb (bitAnd d e) 1 ≡ (eqb d 1 && eqb e 1)
-  and-digit = go d e hd he
-    where
-      go : (d e : ℕ) → d < 2 → e < 2 → eqb (bitAnd d e) 1 ≡ (eqb d 1 && eqb e 1)
-      go zero zero h k = refl
-      go zero (suc zero) h k = refl
-      go (suc zero) zero h k = refl
-      go (suc zero) (suc zero) h k = refl
-      go zero (suc (suc e)) h k = absurd (omega arith)
-      go (suc zero) (suc (suc e)) h k = absurd (omega arith)
-      go (suc (suc d)) e h k = absurd (omega arith)
+-- what holds of every two digits holds of two numbers below 2
+digits : (P : ℕ → ℕ → Type 0) → P 0 0 → P 0 1 → P 1 0 → P 1 1 → (d e : ℕ) → d < 2 → e < 2 → P d e
+digits P a b c f zero zero h k = a
+digits P a b c f zero (suc zero) h k = b
+digits P a b c f (suc zero) zero h k = c
+digits P a b c f (suc zero) (suc zero) h k = f
+digits P a b c f zero (suc (suc e)) h k = absurd (omega arith)
+digits P a b c f (suc zero) (suc (suc e)) h k = absurd (omega arith)
+digits P a b c f (suc (suc d)) e h k = absurd (omega arith)
 
-  or-digit : eqb (bitOr d e) 1 ≡ (eqb d 1 || eqb e 1)
-  or-digit = go d e hd he
-    where
-      go : (d e : ℕ) → d < 2 → e < 2 → eqb (bitOr d e) 1 ≡ (eqb d 1 || eqb e 1)
-      go zero zero h k = refl
-      go zero (suc zero) h k = refl
-      go (suc zero) zero h k = refl
-      go (suc zero) (suc zero) h k = refl
-      go zero (suc (suc e)) h k = absurd (omega arith)
-      go (suc zero) (suc (suc e)) h k = absurd (omega arith)
-      go (suc (suc d)) e h k = absurd (omega arith)
+and-digit : (d e : ℕ) → d < 2 → e < 2 → eqb (bitAnd d e) 1 ≡ (eqb d 1 && eqb e 1)
+and-digit = digits (λ d e. eqb (bitAnd d e) 1 ≡ (eqb d 1 && eqb e 1)) refl refl refl refl
 
-  xor-digit : eqb (bitXor d (bitAnd d e)) 1 ≡ (eqb d 1 && not (eqb e 1))
-  xor-digit = go d e hd he
-    where
-      go : (d e : ℕ) → d < 2 → e < 2 → eqb (bitXor d (bitAnd d e)) 1 ≡ (eqb d 1 && not (eqb e 1))
-      go zero zero h k = refl
-      go zero (suc zero) h k = refl
-      go (suc zero) zero h k = refl
-      go (suc zero) (suc zero) h k = refl
-      go zero (suc (suc e)) h k = absurd (omega arith)
-      go (suc zero) (suc (suc e)) h k = absurd (omega arith)
-      go (suc (suc d)) e h k = absurd (omega arith)
+or-digit : (d e : ℕ) → d < 2 → e < 2 → eqb (bitOr d e) 1 ≡ (eqb d 1 || eqb e 1)
+or-digit = digits (λ d e. eqb (bitOr d e) 1 ≡ (eqb d 1 || eqb e 1)) refl refl refl refl
+
+less-digit : (d e : ℕ) → d < 2 → e < 2 → eqb (bitXor d (bitAnd d e)) 1 ≡ (eqb d 1 && not (eqb e 1))
+less-digit = digits (λ d e. eqb (bitXor d (bitAnd d e)) 1 ≡ (eqb d 1 && not (eqb e 1))) refl refl refl refl
 
 pub holds-and : (a b j : ℕ) → holds (bitAnd a b) j ≡ (holds a j && holds b j)
 unfolding holds
@@ -95,7 +77,7 @@ unfolding holds
 holds-less a b j =
     ap (λ (x : ℕ). eqb (x % 2) 1) (xor-shr a (bitAnd a b) j) ∙ ap (λ (x : ℕ). eqb x 1) (xor-mod (a / 2 ^ j) (bitAnd a b / 2 ^ j) 1)
     ∙ ap (λ (x : ℕ). eqb (bitXor (a / 2 ^ j % 2) x) 1) (ap (λ (x : ℕ). x % 2) (and-shr a b j) ∙ and-mod (a / 2 ^ j) (b / 2 ^ j) 1)
-    ∙ xor-digit (a / 2 ^ j % 2) (b / 2 ^ j % 2) (omega arith) (omega arith)
+    ∙ less-digit (a / 2 ^ j % 2) (b / 2 ^ j % 2) (omega arith) (omega arith)
 
 -- ---- how many
 
