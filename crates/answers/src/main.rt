@@ -1,5 +1,5 @@
-// Answers a batch of cases, for comparison with the second program. `cases` says how a case is framed, `calls` which calls there are. A
-// string has at most 131,072 bytes. A case that is cut off, or of another call, ends the batch.
+// Answers a batch of cases, for comparison with the second program. `cases` says how a case is framed, `calls` which calls
+// there are. A string has at most 131,072 bytes. A case that is cut off, or of another call, ends the batch.
 use cases::Head;
 use cases::Next;
 ghost use mathlib.Core.Path.{_≡_};

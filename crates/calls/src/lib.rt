@@ -1,9 +1,9 @@
 // The calls of the cases of a batch, each with its answer as it is written. Of what a call promises nothing is needed here.
 //
-// 1, check: a is the file. 2, unpack: a is the file, b and c are the rooms for colours and edges. 3, pack: a and b are the colours
-// and the edges, c is the room, the two numbers are m and the start. 4, trace: a is the file, b the observations, c the room for
-// colours; its counts are 0 and 0 where all is traced, 1 and i where it stops at i. 5, reduce: a is the file, b the answer room, c the
-// class list, two bytes an entry; an odd last byte is no entry.
+// 1, check: a is the file. 2, unpack: a is the file, b and c are the rooms for colours and edges. 3, pack: a and b are the
+// colours and the edges, c is the room, the two numbers are m and the start. 4, trace: a is the file, b the observations, c
+// the room for colours; its counts are 0 and 0 where all is traced, 1 and i where it stops at i. 5, reduce: a is the file, b
+// the answer room, c the class list, two bytes an entry; an odd last byte is no entry.
 use cases::Answer;
 use cases::Head;
 use checking::Checked;

@@ -1,8 +1,8 @@
 // A batch of cases on standard input and their answers on standard output: how they are framed. All numbers are big-endian.
 //
-// In: 8 bytes, how many cases; then each case: 1 byte, the call; two numbers of 8 bytes; three lengths of 4 bytes; and as many bytes
-// for each of the strings a, b and c.
-// Out, each case: 1 byte, the refusal's number or 0; 8 bytes, its place; four counts of 8 bytes; then the strings b and c.
+// In: 8 bytes, how many cases; then each case: 1 byte, the call; two numbers of 8 bytes; three lengths of 4 bytes; and as many
+// bytes for each of the strings a, b and c. Out, each case: 1 byte, the refusal's number or 0; 8 bytes, its place; four counts
+// of 8 bytes; then the strings b and c.
 use libc::STDIN_FILENO;
 use libc::STDOUT_FILENO;
 ghost use mathlib.Core.Path.{_≡_};

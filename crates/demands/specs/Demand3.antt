@@ -1,6 +1,7 @@
--- Demand 3 over bytes: whatever an accepted file traces from its start, the file that reduce writes traces too, with the same colours
--- before the first observation and after each; and rounds + distinct colours ≤ reduced states ≤ original states. Stated over the
--- definitions that the contracts of trace and reduce cite, and then of any answers and rooms that meet those contracts. Of any usable widths.
+-- Demand 3 over bytes: whatever an accepted file traces from its start, the file that reduce writes traces too, with the same
+-- colours before the first observation and after each; and rounds + distinct colours ≤ reduced states ≤ original states.
+-- Stated over the definitions that the contracts of trace and reduce cite, and then of any answers and rooms that meet those
+-- contracts. Of any usable widths.
 -- Assumes nothing.
 use Prim.Native.Nat.{ℕ, _+_, _-_, _≤_, _<_}
 use mathlib.Core.Path.{_≡_, refl, sym, ap, ap₂, _∙_, subst}
@@ -88,7 +89,8 @@ module _ (P : Profile) (usable : Usable P) (file : List ℕ) (bytes : Bytes file
   reduced-file-accepted = file-accepted P usable file bytes vs accepts
 
   -- and traces every sequence, of any length, that the file traces, with the same colours
-  pub reduced-file-traces : (ys : List ℕ) → Traces P file ys → Traces P (reducedFile P file) ys × (Shows P (reducedFile P file) ys ≡ Shows P file ys)
+  pub reduced-file-traces : (ys : List ℕ) → Traces P file ys →
+      Traces P (reducedFile P file) ys × (Shows P (reducedFile P file) ys ≡ Shows P file ys)
   reduced-file-traces ys t =
       let r = reduced-traces F few ok ys t in
       (ap (λ (G : Filter). stops G ys) reduced-file-holds ∙ r .0, ap (λ (G : Filter). shown G ys) reduced-file-holds ∙ r .1)
@@ -167,11 +169,13 @@ labels-kept : (P : Profile) (s : List ℕ) → reduced (filterIn P s) .labels �
 unfolding reduced merged filterIn
 labels-kept P s = refl
 
--- If reduce answers with a file and trace of the original answers *traced*, then trace of the first `length` bytes of the answer room
--- answers *traced* too, in any room that is long enough, and the two rooms begin with the same colours.
-pub reduce-then-trace : (P : Profile) → Usable P → (file : List ℕ) (found left : Rooms) (c : Counts) → Bytes file → ReducePromise P file found (answers.Accepted c) left →
+-- If reduce answers with a file and trace of the original answers *traced*, then trace of the first `length` bytes of the
+-- answer room answers *traced* too, in any room that is long enough, and the two rooms begin with the same colours.
+pub reduce-then-trace : (P : Profile) → Usable P → (file : List ℕ) (found left : Rooms) (c : Counts) → Bytes file →
+    ReducePromise P file found (answers.Accepted c) left →
     (ys room room′ : List ℕ) → TracePromise P file ys room traced.All room′ →
-    (r : Traced) (other other′ : List ℕ) → length ys < length other → TracePromise P (take (c .length) (left .answer)) ys other r other′ →
+    (r : Traced) (other other′ : List ℕ) → length ys < length other →
+    TracePromise P (take (c .length) (left .answer)) ys other r other′ →
     (r ≡ traced.All) × (room′ ≡ laid (Shows P file ys) room) × (other′ ≡ laid (Shows P file ys) other)
 unfolding traceOf
 reduce-then-trace P usable file found left c bytes hr ys room room′ ht r other other′ long h =

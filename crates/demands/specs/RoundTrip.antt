@@ -70,7 +70,8 @@ module _ (P : Profile) (ok : Usable P) where
 
 module _ (P : Profile) (ok : Usable P) where
   -- what was unpacked from a file into two rooms, and packed again, gives the file's bytes, and behind them the room as found
-  pub pack-after-unpack : (file : List ℕ) (found left : Rooms) (u : Unpacked) (n m start e : ℕ) (room room′ : List ℕ) (p : Packed) → Bytes file →
+  pub pack-after-unpack : (file : List ℕ) (found left : Rooms) (u : Unpacked)
+      (n m start e : ℕ) (room room′ : List ℕ) (p : Packed) → Bytes file →
       UnpackPromise P file found u left → unpackedOutcome u ≡ accepted (n ∷ m ∷ start ∷ e ∷ []) →
       PackPromise P (take n (left .colours)) (take (3 * e) (left .edges)) m start room p room′ → length file ≤ length room →
       (packedOutcome p ≡ accepted (length file ∷ [])) × (room′ ≡ laid file room)
@@ -91,11 +92,14 @@ module _ (P : Profile) (ok : Usable P) where
       let bytes : written P (listed (take n (left .colours)) (take (3 * e) (left .edges)) m start) ≡ file = rw (cs, es, ← hm, ← hs) (bytes-unpacked P ok file b (q .0)) in
       (hp .answer ∙ accepts, hp .room-after ∙ rw (accepts, bytes))
 
-  -- what was packed into a room, and unpacked from its first bytes, gives the lists and the numbers, and behind them the rooms as found
-  pub unpack-after-pack : (colours edges : List ℕ) (m start : ℕ) (room room′ : List ℕ) (p : Packed) (n : ℕ) (found left : Rooms) (u : Unpacked) →
+  -- what was packed into a room, and unpacked from its first bytes, gives the lists and the numbers, and behind them the rooms
+  -- as found
+  pub unpack-after-pack : (colours edges : List ℕ) (m start : ℕ) (room room′ : List ℕ)
+      (p : Packed) (n : ℕ) (found left : Rooms) (u : Unpacked) →
       PackPromise P colours edges m start room p room′ → packedOutcome p ≡ accepted (n ∷ []) →
       UnpackPromise P (take n room′) found u left → length colours ≤ length (found .colours) → length edges ≤ length (found .edges) →
-      (unpackedOutcome u ≡ accepted (length colours ∷ m ∷ start ∷ length edges / 3 ∷ [])) × (left .colours ≡ laid colours (found .colours)) × (left .edges ≡ laid edges (found .edges))
+      (unpackedOutcome u ≡ accepted (length colours ∷ m ∷ start ∷ length edges / 3 ∷ []))
+      × (left .colours ≡ laid colours (found .colours)) × (left .edges ≡ laid edges (found .edges))
   unpack-after-pack colours edges m start room room′ p n found left u hp a hu lc le =
       let F = listed colours edges m start in
       let h : packOf P colours edges m start (length room) ≡ accepted (n ∷ []) = sym (hp .answer) ∙ a in

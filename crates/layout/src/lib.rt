@@ -1,4 +1,5 @@
-// How a filter stands in a file: the widths of its fields, sizes and positions, the four numbers before the colours, and one edge.
+// How a filter stands in a file: the widths of its fields, sizes and positions, the four numbers before the colours, and one
+// edge.
 pub mod edge; // one edge, read or written
 pub mod header; // the four numbers before the colours
 

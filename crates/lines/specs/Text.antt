@@ -1,5 +1,5 @@
--- The text that `reduce` prints, and the refusal line of every program (document 01, "Three programs"): fields parted by one space, decimal numbers, each line ended by
--- one newline byte. Bytes are ASCII.
+-- The text that `reduce` prints, and the refusal line of every program (document 01, "Three programs"): fields parted by one
+-- space, decimal numbers, each line ended by one newline byte. Bytes are ASCII.
 -- Assumes nothing.
 use Prim.Native.Nat.{ℕ, suc}
 use mathlib.Core.List.{List, [], _∷_, _++_}

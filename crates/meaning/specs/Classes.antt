@@ -1,6 +1,7 @@
 -- Classes of states and their reduction by iterated splitting (document 01, "Reducing").
--- The class names of the states 0 to n - 1 are a list: entry s is the smallest state of s's class, and 65,535 for a state in none.
--- What is reduced is a task, so that which states take part, when two conflict and how a class is grouped each stand in one place.
+-- The class names of the states 0 to n - 1 are a list: entry s is the smallest state of s's class, and 65,535 for a state in
+-- none. What is reduced is a task, so that which states take part, when two conflict and how a class is grouped each stand in
+-- one place.
 -- Assumes nothing.
 use Prim.Native.Nat.{ℕ, zero, suc}
 use mathlib.Core.Bool.{Bool, true, false, not, _&&_}
@@ -27,7 +28,8 @@ pub record Classes : Type 0 where
 -- At the beginning all states of one colour form one class, named by the smallest of them.
 unfoldable pub initial : Task → List ℕ
 initial T =
-    tab (T .size) (λ s. elim (T .live s) [ true ↦ least (λ t. T .live t && eqb (T .colour t) (T .colour s)) (T .size) | false ↦ 65535 ])
+    tab (T .size)
+    (λ s. elim (T .live s) [ true ↦ least (λ t. T .live t && eqb (T .colour t) (T .colour s)) (T .size) | false ↦ 65535 ])
 
 -- Class c has a conflicting pair.
 unfoldable pub parted : ℕ → (ℕ → ℕ → Bool) → List ℕ → ℕ → Bool
@@ -37,8 +39,8 @@ parted n clash P c = any (λ t. eqb (at P t) c && any (λ s. eqb (at P s) c && c
 unfoldable pub first : ℕ → (ℕ → ℕ → Bool) → List ℕ → ℕ
 first n clash P = least (parted n clash P) n
 
--- The smallest group number that no earlier member that conflicts with k has; G holds the groups of the states before k. Each of them
--- is below k, so that k is free where no smaller number is.
+-- The smallest group number that no earlier member that conflicts with k has; G holds the groups of the states before k. Each
+-- of them is below k, so that k is free where no smaller number is.
 unfoldable pub free : (ℕ → Bool) → (ℕ → ℕ → Bool) → List ℕ → ℕ → ℕ
 free mem clash G k = least (λ g. not (any (λ t. mem t && (clash t k && eqb (at G t) g)) k)) k
 

@@ -1,5 +1,5 @@
--- The statements about the whole: of a filter in order with at most 256 states, the reduced filter is in order, has no more states
--- and edges, and traces whatever the filter traces, with the same colours. Assumes nothing.
+-- The statements about the whole: of a filter in order with at most 256 states, the reduced filter is in order, has no more
+-- states and edges, and traces whatever the filter traces, with the same colours. Assumes nothing.
 use Prim.Native.Nat.{ℕ, zero, suc, _+_, _≤_, _<_}
 use mathlib.Core.Path.{_≡_, refl, sym, ap, _∙_, subst}
 use mathlib.Core.Bool.{Bool, true, false, _&&_, _||_}

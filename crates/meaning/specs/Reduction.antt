@@ -12,7 +12,8 @@ use Rattle.meaning.specs.SearchLaws.{count-mono, least-ok, least-of, at-
 use Rattle.meaning.specs.Classes.{Task, Classes, initial, parted, first, split, round, chosen, begin, cut, run, reduction, named, classes}
 use Rattle.meaning.specs.ClassesLaws.{Named, split-out, split-live, split-class, split-named, split-all, name-own, split-grows}
 
--- What a task must meet: 65,535 is no state and so names no class, some state takes part, and grouping parts each conflicting pair.
+-- What a task must meet: 65,535 is no state and so names no class, some state takes part, and grouping parts each conflicting
+-- pair.
 pub record Fair (T : Task) : Type 0 where
   pub small : T .size ≤ 65535
   pub somebody : (s : ℕ) × (s < T .size) × (T .live s ≡ true)

@@ -1,4 +1,5 @@
--- What pack answers, and what it promises of its answer and of every byte that it is lent to write. What is lent to be read cannot change.
+-- What pack answers, and what it promises of its answer and of every byte that it is lent to write. What is lent to be read
+-- cannot change.
 -- Assumes nothing.
 use Prim.Native.Nat.{ℕ, _%_, _/_, _*_, _≤_}
 use mathlib.Core.Path.{_≡_}
@@ -24,7 +25,8 @@ unfoldable pub packOf : Profile → List ℕ → List ℕ → ℕ → ℕ → �
 packOf P colours edges m start room = writeOf P (listed colours edges m start) (eqb (length edges % 3) 0) room
 
 -- Accepted: the room begins with the file, the rest is as found. Refused: the room is as found.
-pub record PackPromise (P : Profile) (colours edges : List ℕ) (m start : ℕ) (room : List ℕ) (r : Packed) (room′ : List ℕ) : Type 0 where
+pub record PackPromise (P : Profile) (colours edges : List ℕ) (m start : ℕ) (room : List ℕ) (r : Packed) (room′ : List ℕ)
+    : Type 0 where
   pub answer : packedOutcome r ≡ packOf P colours edges m start (length room)
   pub room-after : room′
       ≡ roomAfter (packOf P colours edges m start (length room)) (written P (listed colours edges m start)) room

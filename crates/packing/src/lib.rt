@@ -26,7 +26,8 @@ pub enum Packed {
 
 // Writes the file of a colour list, an edge list, m and a start, and answers its length.
 pub fn pack(colours: &[u8], edges: &[u8], m: usize, start: usize, room: &mut [u8]) -> Packed
-    ensures { λ r. ⌜ PackPromise large (now (colours .entry)) (now (edges .entry)) m start (now (room .entry)) r (now (room .exit)) ⌝ }
+    ensures { λ r. ⌜ PackPromise large (now (colours .entry)) (now (edges .entry)) m start (now (room .entry))
+        r (now (room .exit)) ⌝ }
 {
     pack_as(layout::large(), colours, edges, m, start, room)
 }
@@ -41,7 +42,8 @@ fn pack_as(
     room: &mut [u8],
 ) -> Packed
     requires { ⌜ Usable p ⌝ }
-    ensures { λ r. ⌜ PackPromise p (now (colours .entry)) (now (edges .entry)) m start (now (room .entry)) r (now (room .exit)) ⌝ }
+    ensures { λ r. ⌜ PackPromise p (now (colours .entry)) (now (edges .entry)) m start (now (room .entry))
+        r (now (room .exit)) ⌝ }
 {
     let answer = test_lists(p, colours, edges, m, start, room.len());
     let Packed::Accepted(written) = answer else {
@@ -139,7 +141,8 @@ fn write(p: Profile, colours: &[u8], edges: &[u8], m: usize, start: usize, room:
     requires { ⌜ Usable p
         × (packOf p (now colours) (now edges) m start (length (now room))
         ≡ accepted (lengthOf p (listed (now colours) (now edges) m start) ∷ [])) ⌝ }
-    ensures { λ _. ⌜ now (room .exit) ≡ laid (written p (listed (now (colours .entry)) (now (edges .entry)) m start)) (now (room .entry)) ⌝ }
+    ensures { λ _. ⌜ now (room .exit)
+        ≡ laid (written p (listed (now (colours .entry)) (now (edges .entry)) m start)) (now (room .entry)) ⌝ }
 {
     let n = colours.len();
     let e = edges.len() / 3;
@@ -185,7 +188,8 @@ fn test_list(edges: &[u8], n: usize, m: usize) -> Verdict
     Verdict::Faultless
 }
 
-// Writes the edges behind the colours, from bit `at` on: the room's later part is lent on, with the starting bit inside its first byte.
+// Writes the edges behind the colours, from bit `at` on: the room's later part is lent on, with the starting bit inside its
+// first byte.
 fn put_edges(p: Profile, room: &mut [u8], at: usize, edges: &[u8], e: usize)
     requires { ⌜ Writable p at (now edges) e (now room) ⌝ }
     ensures { λ _. ⌜ now (room .exit) ≡ putFields (now (room .entry)) at (edgeWidths p e) (now (edges .entry)) ⌝ }

@@ -23,7 +23,8 @@ abbrev pub CheckToC : List ℕ → List ℕ → ℕ → List ℕ → Type 0
 CheckToC file values r values′ = Told (checkOf large file) values r values′
 
 -- Values: n, m, start and e.
-pub record UnpackToC (file : List ℕ) (found : unpacking.Rooms) (values : List ℕ) (r : ℕ) (left : unpacking.Rooms) (values′ : List ℕ) : Type 0 where
+pub record UnpackToC (file : List ℕ) (found : unpacking.Rooms) (values : List ℕ) (r : ℕ) (left : unpacking.Rooms) (values′ : List ℕ)
+    : Type 0 where
   pub told : Told (unpackOf large file found) values r values′
   pub colours-after : left .colours ≡ roomAfter (unpackOf large file found) (coloursIn large file) (found .colours)
   pub edges-after : left .edges ≡ roomAfter (unpackOf large file found) (flat (edgesIn large file)) (found .edges)
@@ -41,7 +42,9 @@ pub record TraceToC (file observations colours values : List ℕ) (r : ℕ) (col
       ≡ roomAfter (traceOf large file observations (length colours)) (shown (filterIn large file) observations) colours
 
 -- Values: states, distinct colours, rounds and the length in bytes.
-pub record ReduceToC (file : List ℕ) (found : folding.Rooms) (values : List ℕ) (r : ℕ) (left : folding.Rooms) (values′ : List ℕ) : Type 0 where
+pub record ReduceToC (file : List ℕ) (found : folding.Rooms) (values : List ℕ) (r : ℕ) (left : folding.Rooms) (values′ : List ℕ)
+    : Type 0 where
   pub told : Told (reduceOf large file found) values r values′
-  pub answer-after : left .answer ≡ roomAfter (reduceOf large file found) (written large (reduced (filterIn large file))) (found .answer)
+  pub answer-after : left .answer
+      ≡ roomAfter (reduceOf large file found) (written large (reduced (filterIn large file))) (found .answer)
   pub classes-after : left .classes ≡ roomAfter (reduceOf large file found) (classList (filterIn large file)) (found .classes)

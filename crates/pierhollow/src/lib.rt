@@ -1,5 +1,5 @@
-// The calls for C. Each returns 0 for accepted, else the refusal's place times 256 plus its number; include/pierhollow.h says which
-// value stands where in the lent array.
+// The calls for C. Each returns 0 for accepted, else the refusal's place times 256 plus its number; include/pierhollow.h says
+// which value stands where in the lent array.
 use checking::Checked;
 use folding::Counts;
 use layout::Reading;
@@ -34,8 +34,8 @@ pub extern "C" fn pierhollow_unpack(
     edges: &mut [u8],
     values: &mut [u64; 4],
 ) -> u64
-    ensures { λ r. ⌜ UnpackToC (now (file .entry)) (unpacking.rooms (now (colours .entry)) (now (edges .entry))) (now (values .entry))
-        r (unpacking.rooms (now (colours .exit)) (now (edges .exit))) (now (values .exit)) ⌝ }
+    ensures { λ r. ⌜ UnpackToC (now (file .entry)) (unpacking.rooms (now (colours .entry)) (now (edges .entry)))
+        (now (values .entry)) r (unpacking.rooms (now (colours .exit)) (now (edges .exit))) (now (values .exit)) ⌝ }
 {
     match unpacking::unpack(file, colours, edges) {
         Unpacked::Accepted(reading) => tell_reading(reading, values),
@@ -85,8 +85,8 @@ pub extern "C" fn pierhollow_reduce(
     classes: &mut [u16],
     values: &mut [u64; 4],
 ) -> u64
-    ensures { λ r. ⌜ ReduceToC (now (file .entry)) (folding.rooms (now (answer .entry)) (now (classes .entry))) (now (values .entry))
-        r (folding.rooms (now (answer .exit)) (now (classes .exit))) (now (values .exit)) ⌝ }
+    ensures { λ r. ⌜ ReduceToC (now (file .entry)) (folding.rooms (now (answer .entry)) (now (classes .entry)))
+        (now (values .entry)) r (folding.rooms (now (answer .exit)) (now (classes .exit))) (now (values .exit)) ⌝ }
 {
     match reduction::reduce(file, answer, classes) {
         Reduced::Accepted(counts) => tell_counts(counts, values),

@@ -13,8 +13,8 @@ use Rattle.reduction.specs.Answers.{reducedOutcome}
 use Rattle.folding.specs.Folding.{Rooms}
 use Rattle.reduction.specs.Reducing.{reduceOf}
 
--- Accepted: the answer room begins with the reduced filter's file and the class list with the new number of each state, the rest of
--- both is as found. Refused: both are as found.
+-- Accepted: the answer room begins with the reduced filter's file and the class list with the new number of each state, the
+-- rest of both is as found. Refused: both are as found.
 pub record ReducePromise (P : Profile) (file : List ℕ) (found : Rooms) (r : Reduced) (left : Rooms) : Type 0 where
   pub answers : reducedOutcome r ≡ reduceOf P file found
   pub answer-after : left .answer ≡ roomAfter (reduceOf P file found) (written P (reduced (filterIn P file))) (found .answer)

@@ -18,7 +18,8 @@ pub record Table : Type 0 where
 abbrev pub table : List ℕ → List ℕ → Table
 table targets labels = record { targets = targets; labels = labels }
 
--- The edge of a state at a label. A label past the 64 has none, so that no two share an entry; nor has a state past the table's end.
+-- The edge of a state at a label. A label past the 64 has none, so that no two share an entry; nor has a state past the
+-- table's end.
 unfoldable pub look : Table → ℕ → ℕ → Option ℕ
 look T s y = pick (ltb y 64 && holds (at (T .labels) s) y) (some (at (T .targets) (s * 64 + y))) none
 

@@ -1,5 +1,5 @@
-// Edges looked up by state and label: 64 targets of a byte a state, and for each state the set of the labels that it has. Only the
-// sets are looked at for whether there is an edge, so that a fresh table's targets may be anything.
+// Edges looked up by state and label: 64 targets of a byte a state, and for each state the set of the labels that it has. Only
+// the sets are looked at for whether there is an edge, so that a fresh table's targets may be anything.
 ghost use mathlib.Core.Path.{_≡_};
 ghost use Prim.Native.Nat.{_+_, _*_, _≤_, _<_};
 ghost use lib.ListN.{length, replicate};

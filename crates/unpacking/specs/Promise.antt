@@ -1,4 +1,5 @@
--- What unpack answers, and what it promises of its answer and of every byte that it is lent to write. What is lent to be read cannot change.
+-- What unpack answers, and what it promises of its answer and of every byte that it is lent to write. What is lent to be read
+-- cannot change.
 -- Assumes nothing.
 use Prim.Native.Nat.{ℕ, _*_, _≤_}
 use mathlib.Core.Path.{_≡_}
