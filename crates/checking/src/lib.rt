@@ -39,9 +39,8 @@ fn check_as(p: Profile, answer: Checked, file: &[u8]) -> Checked
     let mut cursor = Cursor::begin(layout::edges_begin(p, n));
     while cursor.index < e {
         let next = cursor.next(p, file);
-        let before = cursor.before;
         let edge = next.before;
-        let verdict = edges::test(n, m, cursor.index, before, edge);
+        let verdict = edges::test(n, m, cursor.index, cursor.rank, edge);
         match verdict {
             Verdict::Faultless => cursor = next,
             Verdict::Faulty(why) => return Checked::Refused(why),

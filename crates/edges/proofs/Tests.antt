@@ -3,7 +3,7 @@ use mathlib.Core.Path.{_≡_, refl, sym, ap, _∙_}
 use mathlib.Core.Bool.{Bool, true, false, _&&_, _||_}
 use mathlib.Core.List.{List, [], _∷_}
 use mathlib.Core.Option.{Option, none, some}
-use Prim.Native.Nat.{ℕ, suc, _+_, _*_, _-_, _≤_, _<_}
+use Prim.Native.Nat.{ℕ, suc, _+_, _≤_, _<_}
 use native.Mathlib.Numerals.{add-one}
 use native.Mathlib.Omega.{arith}
 use lib.Dec.{eqb, ltb}
@@ -13,6 +13,7 @@ use Rattle.meaning.specs.Cases.{clash, test, and-left, and-right}
 use Rattle.meaning.specs.Filter.{Edge, inside, comesBefore, samePlace, each, leads, ascending}
 use Rattle.refusals.specs.Refusals.{Outcome, accepted, refused}
 use Rattle.edges.specs.Faults.{orderFault, edgeFault, Fault, faultAt, firstFault, edgesThen}
+use Rattle.edges.specs.Walk.{rankOf, Ranked}
 
 none-some : {A : Type 0} (k : ℕ) → _≡_ {A = Option ℕ} (some k) none → A
 none-some k h = clash cc
@@ -47,34 +48,6 @@ after a b h k = go (ltb (b .source) (a .source)) refl
             let l2 : eqb (a .label) (b .label) ≡ false = rw s1 at k in
             let l : b .label < a .label = order (a .label) (b .label) (ltb-false (a .label) (b .label) l1) (eqb-false (a .label) (b .label) l2) in
             rw (e, s2) (lt-ltb _ _ l)
-
--- labels below 256: the order of edges is that of one number, and so is their place
-module _ (a b : Edge) (al : a .label < 256) (bl : b .label < 256) where
-  pub before-rank : comesBefore a b ≡ ltb (a .source * 256 + a .label) (b .source * 256 + b .label)
-  unfolding comesBefore
-  before-rank =
-      test (ltb (a .source) (b .source))
-      (λ p. rw (p, lt-ltb (a .source * 256 + a .label) (b .source * 256 + b .label) (omega (arith, ltb-true (a .source) (b .source) p))))
-      (λ p. test (eqb (a .source) (b .source))
-      (λ q. rw (p, q, eqb-true (a .source) (b .source) q) (same-source (a .label) (b .label)))
-      (λ q. let n = eqb-false (a .source) (b .source) q in
-      rw (p, q, le-ltb (a .source * 256 + a .label) (b .source * 256 + b .label) (omega (arith, order (a .source) (b .source) (ltb-false (a .source) (b .source) p) n)))))
-    where
-      same-source : (x y : ℕ) → ltb x y ≡ ltb (b .source * 256 + x) (b .source * 256 + y)
-      same-source x y =
-          test (ltb x y) (λ p. rw (p, lt-ltb (b .source * 256 + x) (b .source * 256 + y) (omega (arith, ltb-true x y p))))
-          (λ p. rw (p, le-ltb (b .source * 256 + x) (b .source * 256 + y) (omega (arith, ltb-false x y p))))
-
-  pub place-rank : samePlace a b ≡ eqb (a .source * 256 + a .label) (b .source * 256 + b .label)
-  unfolding samePlace
-  place-rank =
-      test (eqb (a .source * 256 + a .label) (b .source * 256 + b .label))
-      (λ p. let e = eqb-true (a .source * 256 + a .label) (b .source * 256 + b .label) p in
-      rw (p, eq-eqb (a .source) (b .source) (omega arith), eq-eqb (a .label) (b .label) (omega arith)))
-      (λ p. test (eqb (a .source) (b .source))
-      (λ q. let e = eqb-true (a .source) (b .source) q in
-      rw (p, q, ne-eqb (a .label) (b .label) (λ z. eqb-false (a .source * 256 + a .label) (b .source * 256 + b .label) p (omega arith))))
-      (λ q. rw (p, q)))
 
 pick-clear : (b : Bool) (k : ℕ) (next : Option ℕ) → pick b (some k) next ≡ none → (b ≡ false) × (next ≡ none)
 pick-clear true k next h = none-some k h
@@ -137,6 +110,41 @@ after-not a b h = test (ltb (b .source) (a .source))
 order-free : (before : Option Edge) (e : Edge) → ((b : Edge) → before ≡ some b → comesBefore b e ≡ true) → orderFault before e ≡ none
 order-free none e h = refl
 order-free (some b) e h = let q = after-not e b (h b refl) in rw (q .0, q .1)
+
+-- labels below 256: the order of edges is that of their ranks
+by-rank : (a b : Edge) → b .label < 256 → rankOf (some a) < rankOf (some b) → comesBefore a b ≡ true
+unfolding comesBefore
+by-rank a b low h =
+    test (ltb (a .source) (b .source)) (λ p. rw p)
+    (λ p. let l = ltb-false (a .source) (b .source) p in
+    rw (p, eq-eqb (a .source) (b .source) (omega arith), lt-ltb (a .label) (b .label) (omega arith)))
+
+at-rank : (a b : Edge) → a .label < 256 → b .label < 256 → rankOf (some a) ≡ rankOf (some b) →
+    (comesBefore a b ≡ false) × (samePlace a b ≡ true)
+unfolding comesBefore samePlace
+at-rank a b al bl h =
+    let s = eq-eqb (a .source) (b .source) (omega arith) in
+    (rw (s, le-ltb (a .source) (b .source) (omega arith), le-ltb (a .label) (b .label) (omega arith)), rw (s, eq-eqb (a .label) (b .label) (omega arith)))
+
+pub ranked-none : Ranked 0 none
+ranked-none = record { rank = refl; label = λ b p. clash cc }
+
+pub ranked-edge : (last : ℕ) (e : Edge) → last ≡ rankOf (some e) → e .label < 256 → Ranked last (some e)
+ranked-edge last e is low = record { rank = is; label = λ b p. let q : e ≡ b = cc in rw (← q) low }
+
+-- 8, 9 or neither, by the rank of an edge and that of the edge before it
+module _ (e : Edge) (low : e .label < 256) (last : ℕ) where
+  pub rank-less : (before : Option Edge) → Ranked last before → rankOf (some e) < last → orderFault before e ≡ some 8
+  rank-less none r h = absurd (omega (arith, r .rank))
+  rank-less (some b) r h = rw (by-rank e b (r .label b refl) (omega (arith, r .rank)))
+
+  pub rank-same : (before : Option Edge) → Ranked last before → rankOf (some e) ≡ last → orderFault before e ≡ some 9
+  rank-same none r h = absurd (omega (arith, r .rank))
+  rank-same (some b) r h = let q = at-rank e b low (r .label b refl) (h ∙ r .rank) in rw (q .0, q .1)
+
+  pub rank-more : (before : Option Edge) → Ranked last before → last < rankOf (some e) → orderFault before e ≡ none
+  rank-more none r h = refl
+  rank-more (some b) r h = let q = after-not e b (by-rank b e low (omega (arith, r .rank))) in rw (q .0, q .1)
 
 pub clear-order : (n m i : ℕ) (before : Option Edge) (es : List Edge) → each (inside n m) es ≡ true → ascending es ≡ true →
     ((b : Edge) → before ≡ some b → leads b es ≡ true) → firstFault n m before i es ≡ none

@@ -4,12 +4,10 @@ use layout::edge::Edge;
 use refusals::Kind;
 use refusals::Refusal;
 ghost use mathlib.Core.Path.{_≡_};
-ghost use mathlib.Core.Option.{none};
-ghost use Prim.Native.Nat.{_<_, _≤_, _^_};
-ghost use lib.Dec.{eqb};
+ghost use mathlib.Core.Option.{some};
+ghost use Prim.Native.Nat.{_<_, _^_};
 ghost use Rattle.layout.specs.Code.{edgeOf, Usable, Small};
-ghost use Rattle.edges.specs.Faults.{edgeFault, faultAt};
-ghost use Rattle.edges.specs.Walk.{edgeBefore, faultOf, Next};
+ghost use Rattle.edges.specs.Walk.{rankOf, Tested, Next};
 
 // What the test of an edge finds: none of 7, 8 and 9, or the first of them.
 pub enum Verdict {
@@ -23,17 +21,23 @@ fn faulty(kind: Kind, place: usize) -> Verdict
     Verdict::Faulty(Refusal { kind, place })
 }
 
-// The one test of an edge with index i, behind the edge before it; the first edge has none before it. Sources and labels are bytes:
-// the two side by side are one number, and the order takes no jump that depends on which of them decides.
-pub fn test(n: usize, m: usize, i: usize, before: Edge, edge: Edge) -> Verdict
-    requires { ⌜ Small before × Small edge ⌝ }
-    ensures { λ r. ⌜ faultOf r ≡ faultAt i (edgeFault n m (edgeBefore (eqb i 0) before) (edgeOf edge)) none ⌝ }
+// The place of an edge in the order of edges, counted from 1. Sources and labels are bytes: the two side by side are one number,
+// and the order takes no jump that depends on which of them decides.
+pub fn rank(edge: Edge) -> usize
+    requires { ⌜ Small edge ⌝ }
+    ensures { λ r. ⌜ r ≡ rankOf (some (edgeOf edge)) ⌝ }
+{
+    edge.source * 256 + edge.label + 1
+}
+
+// The one test of an edge with index i, behind the edge of rank `last`; 0: the first edge, which has none before it.
+pub fn test(n: usize, m: usize, i: usize, last: usize, edge: Edge) -> Verdict
+    requires { ⌜ Small edge ⌝ }
+    ensures { λ r. ⌜ Tested n m i last edge r ⌝ }
 {
     let source = edge.source;
     let label = edge.label;
     let target = edge.target;
-    let source_before = before.source;
-    let label_before = before.label;
     if n <= source {
         return faulty(Kind::Outside, i);
     }
@@ -43,23 +47,20 @@ pub fn test(n: usize, m: usize, i: usize, before: Edge, edge: Edge) -> Verdict
     if n <= target {
         return faulty(Kind::Outside, i);
     }
-    if i == 0 {
-        return Verdict::Faultless;
-    }
-    let here = source * 256 + label;
-    let there = source_before * 256 + label_before;
-    if here < there {
-        return faulty(Kind::Order, i);
-    }
-    if here == there {
+    let here = rank(edge);
+    if here <= last {
+        if here < last {
+            return faulty(Kind::Order, i);
+        }
         return faulty(Kind::Repeated, i);
     }
     Verdict::Faultless
 }
 
-// Where a walk over a file's edges stands: the edge before, the bit at which the next one begins, and its index.
+// Where a walk over a file's edges stands: the edge before and its rank, the bit at which the next one begins, and its index.
 pub struct Cursor {
     pub before: Edge,
+    pub rank: usize,
     pub place: usize,
     pub index: usize,
 }
@@ -67,7 +68,7 @@ pub struct Cursor {
 impl Cursor {
     // Before the first edge, which begins at bit `place`.
     pub fn begin(place: usize) -> Cursor
-        ensures { λ r. ⌜ r ≡ record { before = record { source = 0; label = 0; target = 0 }; place = place; index = 0 } ⌝ }
+        ensures { λ r. ⌜ r ≡ record { before = record { source = 0; label = 0; target = 0 }; rank = 0; place = place; index = 0 } ⌝ }
     {
         Cursor {
             before: Edge {
@@ -75,6 +76,7 @@ impl Cursor {
                 label: 0,
                 target: 0,
             },
+            rank: 0,
             place,
             index: 0,
         }
@@ -89,6 +91,7 @@ impl Cursor {
         let edge = layout::edge::read(p, file, place);
         Cursor {
             before: edge,
+            rank: rank(edge),
             place: place + layout::edge_bits(p),
             index: self.index + 1,
         }

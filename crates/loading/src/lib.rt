@@ -50,9 +50,8 @@ fn load_as(
     let mut cursor = Cursor::begin(layout::edges_begin(p, n));
     while cursor.index < e {
         let next = cursor.next(p, file);
-        let before = cursor.before;
         let edge = next.before;
-        let verdict = edges::test(n, m, cursor.index, before, edge);
+        let verdict = edges::test(n, m, cursor.index, cursor.rank, edge);
         match verdict {
             Verdict::Faultless => {
                 table::put(targets, labels, edge.source, edge.label, edge.target as u8);

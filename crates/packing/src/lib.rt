@@ -170,19 +170,15 @@ fn test_list(edges: &[u8], n: usize, m: usize) -> Verdict
     ensures { λ r. ⌜ faultOf r ≡ firstFault n m none 0 (threes (now (edges .entry))) ⌝ }
 {
     let e = edges.len() / 3;
-    let mut before = Edge {
-        source: 0,
-        label: 0,
-        target: 0,
-    };
+    let mut last = 0;
     let mut i = 0;
     while i < e {
         let edge = listed(edges, i);
-        let verdict = edges::test(n, m, i, before, edge);
+        let verdict = edges::test(n, m, i, last, edge);
         let Verdict::Faultless = verdict else {
             return verdict;
         };
-        before = edge;
+        last = edges::rank(edge);
         i += 1;
     }
     Verdict::Faultless

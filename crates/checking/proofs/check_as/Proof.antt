@@ -35,12 +35,12 @@ few-states c =
 
 -- a fault of the edge that the cursor stands before is what the test found
 abbrev told : tie.After-test Inv-loop μ-loop → tie.After-known-told Inv-loop μ-loop
-told c = c .before .before .before .before .before .before .before .before .before
+told c = c .before .before .before .before .before .before .before .before
 
 found : (c : tie.After-test Inv-loop μ-loop) →
     faultNext (told c .before .before .before .before .args .p) (now (told c .before .before .before .before .args .file)) (told c .before .answer .given .0 .0 .states)
-    (told c .before .answer .given .0 .0 .labels) (c .before .before .before .before .before .before .loop .cursor) ≡ faultOf (c .test .result)
-found c = fault-tested _ _ 0 0 _ _ _ _ (c .before .before .before .next .ensures) _ (c .test .ensures)
+    (told c .before .answer .given .0 .0 .labels) (c .before .before .before .before .before .loop .cursor) ≡ faultOf (c .test .result)
+found c = fault-tested _ _ _ _ _ _ _ (c .before .before .before .before .before .loop .inv) _ (c .before .before .next .ensures) (c .test .result) (c .test .ensures)
 
 -- ---- the needs
 
@@ -66,21 +66,21 @@ next-requires c κs =
     (ok, near .0, near .1)
 
 test-requires : tie.Need-test-requires Inv-loop μ-loop
-test-requires c κs = (c .before .before .before .before .before .loop .inv .small, c .before .before .next .ensures .small)
+test-requires c κs = c .before .next .ensures .small
 
 loop-less : tie.Need-loop-less Inv-loop μ-loop
-loop-less c = let tested = c .before .before in omega (arith, tested .before .before .before .next .ensures .index, tested .before .before .before .before .if1 .taken)
+loop-less c = let tested = c .before .before in omega (arith, tested .before .before .next .ensures .index, tested .before .before .before .if1 .taken)
 
 loop-again : tie.Need-loop-again Inv-loop μ-loop
 loop-again c =
     let tested = c .before .before in
-    walk-next _ _ _ _ _ _ _ (tested .before .before .before .before .before .before .loop .inv) (tested .before .before .before .before .if1 .taken) _ (tested .before .before .before .next .ensures) (found tested ∙ ap faultOf (c .enum-told2 .given .1))
+    walk-next _ _ _ _ _ _ _ (tested .before .before .before .before .before .loop .inv) (tested .before .before .before .if1 .taken) _ (tested .before .before .next .ensures) (found tested ∙ ap faultOf (c .enum-told2 .given .1))
 
 returns-2 : tie.Need-returns-2 Inv-loop μ-loop
 returns-2 c =
     let tested = c .before .before .before in
-    sym (check-faulty _ _ _ (is-headed (tested .before .before .before .before .before .before .before .before .before)) _ refl (c .before .verdict .given .0 .0)
-    (walk-faulty _ _ _ _ _ _ _ (tested .before .before .before .before .before .before .loop .inv) (tested .before .before .before .before .if1 .taken) _ (found tested ∙ ap faultOf (c .before .verdict .given .1))))
+    sym (check-faulty _ _ _ (is-headed (tested .before .before .before .before .before .before .before .before)) _ refl (c .before .verdict .given .0 .0)
+    (walk-faulty _ _ _ _ _ _ _ (tested .before .before .before .before .before .loop .inv) (tested .before .before .before .if1 .taken) _ (found tested ∙ ap faultOf (c .before .verdict .given .1))))
 
 returns-3 : tie.Need-returns-3 Inv-loop μ-loop
 returns-3 c =

@@ -41,10 +41,10 @@ few-states c = omega (arith, is-headed c .states-are, states-high _ (started c .
 
 -- a fault of the edge that the cursor stands before is what the test found
 found : (c : tie.After-test Inv-loop μ-loop) →
-    let begun = told (c .before .before .before .before .before .before) in
-    faultNext (started begun .args .p) (now (started begun .args .file)) (begun .before .answer .given .0 .0 .states) (begun .before .answer .given .0 .0 .labels) (c .before .before .before .before .before .before .loop .cursor)
+    let begun = told (c .before .before .before .before .before) in
+    faultNext (started begun .args .p) (now (started begun .args .file)) (begun .before .answer .given .0 .0 .states) (begun .before .answer .given .0 .0 .labels) (c .before .before .before .before .before .loop .cursor)
     ≡ faultOf (c .test .result)
-found c = fault-tested _ _ 0 0 _ _ _ _ (c .before .before .before .next .ensures) _ (c .test .ensures)
+found c = fault-tested _ _ _ _ _ _ _ (c .before .before .before .before .before .loop .inv .walked) _ (c .before .before .next .ensures) (c .test .result) (c .test .ensures)
 
 -- ---- the needs
 
@@ -72,38 +72,38 @@ next-requires c κs =
     (ok, near .0, near .1)
 
 test-requires : tie.Need-test-requires Inv-loop μ-loop
-test-requires c κs = (c .before .before .before .before .before .loop .inv .walked .small, c .before .before .next .ensures .small)
+test-requires c κs = c .before .next .ensures .small
 
 cast-put : tie.Need-cast-put Inv-loop μ-loop
-cast-put c = record { fits = c .before .before .before .before .before .before .before .before .next .ensures .small .target }
+cast-put c = record { fits = c .before .before .before .before .before .before .before .next .ensures .small .target }
 
 put-requires : tie.Need-put-requires Inv-loop μ-loop
 put-requires c κs =
     let tested = c .before .before .before .before .before in
-    let loop = tested .before .before .before .before .before .before in
+    let loop = tested .before .before .before .before .before in
     let start = started (told loop) in
     let rows = start .pre .1 .rows in
-    filling-room _ _ _ _ _ _ _ _ _ (loop .loop .inv) _ (tested .before .before .before .next .ensures) (found tested ∙ ap faultOf (c .before .before .before .enum-told2 .given .1)) (start .pre .1 .labels≤6)
+    filling-room _ _ _ _ _ _ _ _ _ (loop .loop .inv) _ (tested .before .before .next .ensures) (found tested ∙ ap faultOf (c .before .before .before .enum-told2 .given .1)) (start .pre .1 .labels≤6)
     (rw (← is-headed (told loop) .states-are) at rows)
 
 loop-less : tie.Need-loop-less Inv-loop μ-loop
-loop-less c = let tested = c .before .before .before .before .before .before .before .before .before .before in omega (arith, tested .before .before .before .next .ensures .index, tested .before .before .before .before .if1 .taken)
+loop-less c = let tested = c .before .before .before .before .before .before .before .before .before .before in omega (arith, tested .before .before .next .ensures .index, tested .before .before .before .if1 .taken)
 
 loop-again : tie.Need-loop-again Inv-loop μ-loop
 loop-again c =
     let put = c .before .before .before .before in
     let tested = put .before .before .before .before .before .before in
-    filling-next _ _ _ _ _ _ _ _ _ (tested .before .before .before .before .before .before .loop .inv) _ (tested .before .before .before .next .ensures) (found tested ∙ ap faultOf (put .before .before .before .before .enum-told2 .given .1)) (tested .before .before .before .before .if1 .taken) _
+    filling-next _ _ _ _ _ _ _ _ _ (tested .before .before .before .before .before .loop .inv) _ (tested .before .before .next .ensures) (found tested ∙ ap faultOf (put .before .before .before .before .enum-told2 .given .1)) (tested .before .before .before .if1 .taken) _
     (put .put .ensures)
 
 returns-2 : tie.Need-returns-2 Inv-loop μ-loop
 returns-2 c =
     let tested = c .before .before .before in
-    let loop = tested .before .before .before .before .before .before in
+    let loop = tested .before .before .before .before .before in
     let why = c .before .verdict .given .0 .0 in
     loaded-refused _ _ _ why _ _ refl
     (check-faulty _ _ _ (is-headed (told loop)) _ refl why
-    (walk-faulty _ _ _ _ _ _ _ (loop .loop .inv .walked) (tested .before .before .before .before .if1 .taken) _ (found tested ∙ ap faultOf (c .before .verdict .given .1))))
+    (walk-faulty _ _ _ _ _ _ _ (loop .loop .inv .walked) (tested .before .before .before .if1 .taken) _ (found tested ∙ ap faultOf (c .before .verdict .given .1))))
     (loop .loop .inv .rows)
 
 returns-3 : tie.Need-returns-3 Inv-loop μ-loop
