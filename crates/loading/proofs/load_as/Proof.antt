@@ -75,7 +75,7 @@ test-requires : tie.Need-test-requires Inv-loop μ-loop
 test-requires c κs = c .before .next .ensures .small
 
 cast-put : tie.Need-cast-put Inv-loop μ-loop
-cast-put c = record { fits = c .before .before .before .before .before .before .before .next .ensures .small .target }
+cast-put c = let small = c .before .before .before .before .before .before .before .next .ensures .small in omega arith
 
 put-requires : tie.Need-put-requires Inv-loop μ-loop
 put-requires c κs =

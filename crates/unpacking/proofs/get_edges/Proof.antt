@@ -50,19 +50,19 @@ room c =
     omega (arith, inv .behind, inv .long, c .before .if1 .taken, c .before .before .before .before .before .before .before .pre .holds)
 
 cast-out : tie.Need-cast-out Inv-loop μ-loop
-cast-out c = record { fits = c .before .before .next .ensures .small .source }
+cast-out c = let small = c .before .before .next .ensures .small in omega arith
 
 slice-write-out : tie.Need-slice-write-out Inv-loop μ-loop
 slice-write-out c = omega (arith, room (c .before .before))
 
 cast-out-2 : tie.Need-cast-out-2 Inv-loop μ-loop
-cast-out-2 c = record { fits = c .before .before .before .next .ensures .small .label }
+cast-out-2 c = let small = c .before .before .before .next .ensures .small in omega arith
 
 slice-write-out-2 : tie.Need-slice-write-out-2 Inv-loop μ-loop
 slice-write-out-2 c = simp length-set (omega (arith, room (c .before .before .before)))
 
 cast-out-3 : tie.Need-cast-out-3 Inv-loop μ-loop
-cast-out-3 c = record { fits = c .before .before .before .before .next .ensures .small .target }
+cast-out-3 c = let small = c .before .before .before .before .next .ensures .small in omega arith
 
 slice-write-out-3 : tie.Need-slice-write-out-3 Inv-loop μ-loop
 slice-write-out-3 c = simp length-set (room (c .before .before .before .before))
