@@ -6,12 +6,10 @@ use native.Mathlib.Nat.{pow-suc, pow-succ', div-one, div-div-eq-div-mul, div-eq-
 use native.Mathlib.Decide.{ℕ-discrete}
 use native.Mathlib.Omega.{arith}
 use lib.Bits.{bitAnd, bitOr, bitXor, and-shr, and-mod, or-shr, or-mod, xor-shr, xor-mod}
-use lib.Count.{trailingZeros, under, ones, ones-step, ones-le}
+use lib.Count.{trailingZeros, under}
 use lib.Dec.{eqb}
 use lib.Pow.{pow-pos}
 use borrow.Author.Tests.{eqb-true, eq-eqb, ne-eqb}
-use Rattle.meaning.specs.Search.{count, bit}
-use Rattle.meaning.specs.SearchLaws.{count-cong}
 use Rattle.sets.specs.Sets.{holds, Lowest}
 
 -- what cannot be: a test that is true and false
@@ -20,11 +18,11 @@ never p q = let z : _≡_ {A = ℕ} 0 1 = cc in absurd (omega arith)
 
 -- ---- digit by digit
 
-holds-first : (x : ℕ) → holds x 0 ≡ eqb (x % 2) 1
+pub holds-first : (x : ℕ) → holds x 0 ≡ eqb (x % 2) 1
 unfolding holds
 holds-first x = rw (div-one x)
 
-holds-later : (x j : ℕ) → holds x (suc j) ≡ holds (x / 2) j
+pub holds-later : (x j : ℕ) → holds x (suc j) ≡ holds (x / 2) j
 unfolding holds
 holds-later x j = rw (pow-succ' 2 j, ← div-div-eq-div-mul x 2 (2 ^ j))
 
@@ -78,29 +76,6 @@ holds-less a b j =
     ap (λ (x : ℕ). eqb (x % 2) 1) (xor-shr a (bitAnd a b) j) ∙ ap (λ (x : ℕ). eqb x 1) (xor-mod (a / 2 ^ j) (bitAnd a b / 2 ^ j) 1)
     ∙ ap (λ (x : ℕ). eqb (bitXor (a / 2 ^ j % 2) x) 1) (ap (λ (x : ℕ). x % 2) (and-shr a b j) ∙ and-mod (a / 2 ^ j) (b / 2 ^ j) 1)
     ∙ less-digit (a / 2 ^ j % 2) (b / 2 ^ j % 2) (omega arith) (omega arith)
-
--- ---- how many
-
-count-first : (p : ℕ → Bool) (n : ℕ) → count p (suc n) ≡ bit (p 0) + count (λ i. p (suc i)) n
-unfolding count
-count-first p zero = omega arith
-count-first p (suc n) = ap (λ (k : ℕ). k + bit (p (suc n))) (count-first p n) ∙ omega arith
-
-pub holds-count : (w x : ℕ) → x < 2 ^ w → ones x ≡ count (holds x) w
-unfolding count
-holds-count zero x h = let no-ones : ones 0 ≡ 0 = omega (arith, ones-le 0 0 (omega arith)) in ap ones none ∙ no-ones
-  where
-    none : x ≡ 0
-    none = omega arith
-holds-count (suc w) x h =
-    ones-step x
-    ∙ ap₂ (λ (a b : ℕ). a + b) (digit (x % 2) refl) (holds-count w (x / 2) (omega (arith, pow-suc 2 w)) ∙ count-cong (holds (x / 2)) (λ i. holds x (suc i)) w (λ i l. sym (holds-later x i)))
-    ∙ sym (count-first (holds x) w)
-  where
-    digit : (r : ℕ) → x % 2 ≡ r → r ≡ bit (holds x 0)
-    digit zero e = let h : holds x 0 ≡ false = holds-first x ∙ rw e in rw h
-    digit (suc zero) e = let h : holds x 0 ≡ true = holds-first x ∙ rw e in rw h
-    digit (suc (suc r)) e = absurd (omega arith)
 
 -- ---- no number, one number
 

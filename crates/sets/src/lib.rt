@@ -1,9 +1,9 @@
 // Sets of numbers below 64 in one word, a bit each.
 ghost use mathlib.Core.Path.{_≡_};
 ghost use mathlib.Core.Bool.{not, _&&_, _||_};
-ghost use Prim.Native.Nat.{ℕ, _≤_, _<_};
+ghost use Prim.Native.Nat.{ℕ, _^_, _≤_, _<_};
+ghost use lib.Count.{ones};
 ghost use lib.Dec.{eqb};
-ghost use Rattle.meaning.specs.Search.{count};
 ghost use Rattle.sets.specs.Sets.{holds, Lowest};
 
 // Whether k is in the set.
@@ -45,7 +45,7 @@ pub fn less(a: u64, b: u64) -> u64
 
 // How many numbers are in the set.
 pub fn size(set: u64) -> usize
-    ensures { λ r. ⌜ (r ≡ count (holds set) 64) × (r ≤ 64) ⌝ }
+    ensures { λ r. ⌜ (r ≡ ones set) × (r ≤ 64) × (set < 2 ^ 64) ⌝ }
 {
     u64::count_ones(set) as usize
 }

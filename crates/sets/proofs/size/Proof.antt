@@ -1,7 +1,7 @@
 -- `sets::size` meets its contract. Assumes nothing.
+use mathlib.Core.Path.{refl}
 use native.Mathlib.Omega.{arith}
 use lib.Count.{ones-le}
-use Rattle.sets.proofs.Laws.{holds-count}
 use Rattle.sets.proofs.size.Statement.{statement}
 use Rattle.sets.proofs.size.Tie as tie
 
@@ -9,7 +9,7 @@ cast-result : tie.Need-cast-result
 cast-result c = record { fits = omega (arith, ones-le 64 (c .args .set) (c .fits .set .fits)) }
 
 returns : tie.Need-returns
-returns c = (holds-count 64 (c .args .set) (c .fits .set .fits), ones-le 64 (c .args .set) (c .fits .set .fits))
+returns c = (refl, ones-le 64 (c .args .set) (c .fits .set .fits), c .fits .set .fits)
 
 pub size-spec : {M : Type 1} → statement M
 size-spec = tie.close (tie.spec cast-result returns)

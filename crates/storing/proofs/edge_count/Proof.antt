@@ -10,6 +10,7 @@ use lib.ListN.{length}
 use Rattle.meaning.specs.Search.{count, at}
 use Rattle.meaning.specs.Listing as Listing
 use Rattle.sets.specs.Sets.{holds}
+use Rattle.storing.proofs.Counting.{holds-count}
 use Rattle.storing.proofs.Laws.{cells-more}
 use Rattle.storing.proofs.edge_count.Statement.{statement}
 use Rattle.storing.proofs.edge_count.Tie as tie
@@ -44,7 +45,7 @@ loop-again c =
     let test : ℕ → ℕ → Bool = λ i y. holds (at labels (at (now (a .order)) i)) y in (
       omega arith,
       omega (arith, c .size .ensures .1, loop .inv .1),
-      ap₂ (λ (i j : ℕ). i + j) (loop .inv .2) (c .size .ensures .0 ∙ ap (λ (s : ℕ). count (holds (at labels s)) 64) (c .before .before .wide .ensures)) ∙ sym (cells-more test (loop .k) 64),
+      ap₂ (λ (i j : ℕ). i + j) (loop .inv .2) (c .size .ensures .0 ∙ holds-count 64 _ (c .size .ensures .2) ∙ ap (λ (s : ℕ). count (holds (at labels s)) 64) (c .before .before .wide .ensures)) ∙ sym (cells-more test (loop .k) 64),
     )
 
 returns : tie.Need-returns Inv-loop μ-loop
