@@ -27,7 +27,7 @@ use Rattle.layout.specs.Contents.{labelsIn, filterIn}
 use Rattle.refusals.specs.Refusals.{Outcome, accepted, refused, onward, firstOf, laid, roomAfter}
 use Rattle.files.specs.Files.{checkOf, numbersIn}
 use Rattle.layout.proofs.Bounds.{states-high}
-use Rattle.refusals.proofs.Laws.{first-accepted}
+use Rattle.refusals.proofs.Laws.{first-accepted, promise-laid}
 use Rattle.files.specs.Tests.{Sound, check-sound, Writable, writable-in-order}
 use Rattle.files.specs.Written.{Holds, length-written, written-holds, length-filter, read-writable}
 use Rattle.tracing.specs.declared.Traced.{Traced}
@@ -141,24 +141,24 @@ all-traced P file ys room room′ p =
       few-enough = b .0;
       labels-in = c .0;
       traces = ride-all (stops (filterIn P file) ys) (c .1);
-      shows = p .colours-after ∙ ap (λ (o : Outcome). roomAfter o (Shows P file ys) room) (sym (p .answer));
+      shows = cc (promise-laid p (sym (p .answer)));
     }
 
 -- What a reduction that answers with counts tells of the file and of the answer room.
-record Folded (P : Profile) (file : List ℕ) (found left : Rooms) (c : Counts) : Type 0 where
+record Answered (P : Profile) (file : List ℕ) (found left : Rooms) (c : Counts) : Type 0 where
   checks : (us : List ℕ) × (checkOf P file ≡ accepted us)
   length-is : c .length ≡ lengthOf P (reduced (filterIn P file))
   room : left .answer ≡ laid (reducedFile P file) (found .answer)
 
-folded : (P : Profile) (file : List ℕ) (found left : Rooms) (c : Counts) → ReducePromise P file found (answers.Accepted c) left → Folded P file found left c
+answered : (P : Profile) (file : List ℕ) (found left : Rooms) (c : Counts) → ReducePromise P file found (answers.Accepted c) left → Answered P file found left c
 unfolding reduceOf countsOf
-folded P file found left c p =
-    let a = onward-accepted (checkOf P file) _ _ (sym (p .answers)) in
+answered P file found left c p =
+    let a = onward-accepted (checkOf P file) _ _ (sym (p .answer)) in
     let b = first-accepted (reduceTests P file found) _ _ (a .2) .1 in
     record {
       checks = (a .0, a .1);
       length-is = cc (sym b);
-      room = p .answer-after ∙ ap (λ (o : Outcome). roomAfter o (reducedFile P file) (found .answer)) (sym (p .answers));
+      room = cc (promise-laid p (sym (p .answer)));
     }
 
 or-false : (a b : Bool) → a || b ≡ false → (a ≡ false) × (b ≡ false)
@@ -179,7 +179,7 @@ pub reduce-then-trace : (P : Profile) → Usable P → (file : List ℕ) (found 
     (r ≡ traced.All) × (room′ ≡ laid (Shows P file ys) room) × (other′ ≡ laid (Shows P file ys) other)
 unfolding traceOf
 reduce-then-trace P usable file found left c bytes hr ys room room′ ht r other other′ long h =
-    let f = folded P file found left c hr in
+    let f = answered P file found left c hr in
     let t = all-traced P file ys room room′ ht in
     let us = f .checks .0 in
     let accepts = f .checks .1 in
@@ -196,5 +196,5 @@ reduce-then-trace P usable file found left c bytes hr ys room room′ ht r other
     let p : TracePromise P (reducedFile P file) ys other r other′ = subst (λ (s : List ℕ). TracePromise P s ys other r other′) is h in (
       traced-one r traced.All (p .answer ∙ answer-is),
       t .shows,
-      p .colours-after ∙ ap₂ (λ (o : Outcome) (cs : List ℕ). roomAfter o cs other) answer-is (kept .1),
+      cc (promise-laid p answer-is) ∙ ap (λ (cs : List ℕ). laid cs other) (kept .1),
     )

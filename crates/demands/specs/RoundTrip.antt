@@ -24,7 +24,7 @@ use Rattle.packing.specs.Promise.{packedOutcome, packOf, PackPromise}
 use Rattle.files.specs.Files.{checkOf, numbersIn}
 use Rattle.layout.proofs.EdgeLists.{length-flat, threes-flat, flat-threes, length-threes}
 use Rattle.files.specs.Tests.{Sound, check-sound, sound-check, Written, writable-write}
-use Rattle.refusals.proofs.Laws.{laid-front}
+use Rattle.refusals.proofs.Laws.{laid-front, promise-laid}
 use Rattle.packing.proofs.Calls.{pack-passed, whole-edges, count-listed, flat-listed}
 use Rattle.unpacking.proofs.Calls.{unpack-accepts, unpack-checked}
 use Rattle.files.specs.Written.{length-written, written-holds, written-sound, length-colours, length-edges-in, read-writable, read-back}
@@ -83,14 +83,15 @@ module _ (P : Profile) (ok : Usable P) where
       let hm : labelsIn P file ≡ m = cc in
       let hs : startIn P file ≡ start = cc in
       let he : countIn P file ≡ e = cc in
-      let cs : take n (left .colours) ≡ coloursIn P file = ap (take n) (hu .colours-after ∙ rw h) ∙ laid-front (coloursIn P file) (found .colours) n (length-colours P file ∙ hn) in
+      let filled = promise-laid hu h in
+      let cs : take n (left .colours) ≡ coloursIn P file = ap (take n) (cc filled) ∙ laid-front (coloursIn P file) (found .colours) n (length-colours P file ∙ hn) in
       let es : take (3 * e) (left .edges) ≡ flat (edgesIn P file) =
-      ap (take (3 * e)) (hu .edges-after ∙ rw h)
+      ap (take (3 * e)) (cc filled)
       ∙ laid-front (flat (edgesIn P file)) (found .edges) (3 * e) (length-flat (edgesIn P file) ∙ ap (λ (k : ℕ). 3 * k) (length-edges-in P file ∙ he)) in
       let accepts : packOf P (take n (left .colours)) (take (3 * e) (left .edges)) m start (length room) ≡ accepted (length file ∷ []) =
       rw (cs, es, ← hm, ← hs) (pack-unpacked P ok file (length room) b (q .0) l) in
       let bytes : written P (listed (take n (left .colours)) (take (3 * e) (left .edges)) m start) ≡ file = rw (cs, es, ← hm, ← hs) (bytes-unpacked P ok file b (q .0)) in
-      (hp .answer ∙ accepts, hp .room-after ∙ rw (accepts, bytes))
+      (hp .answer ∙ accepts, cc (promise-laid hp accepts) ∙ ap (λ (s : List ℕ). laid s room) bytes)
 
   -- what was packed into a room, and unpacked from its first bytes, gives the lists and the numbers, and behind them the rooms
   -- as found
@@ -105,15 +106,16 @@ module _ (P : Profile) (ok : Usable P) where
       let h : packOf P colours edges m start (length room) ≡ accepted (n ∷ []) = sym (hp .answer) ∙ a in
       let passed = pack-passed P ok colours edges m start (length room) (n ∷ []) h in
       let long : length (written P F) ≡ n = length-written P ok F (passed .writable) ∙ cc (passed .are) in
-      let file : take n room′ ≡ written P F = ap (take n) (hp .room-after ∙ rw h) ∙ laid-front (written P F) room n long in
+      let file : take n room′ ≡ written P F = ap (take n) (cc (promise-laid hp h)) ∙ laid-front (written P F) room n long in
       let holds = written-holds P ok F (passed .writable) in
       let third : length edges ≡ 3 * (length edges / 3) = whole-edges P ok colours edges m start (length room) (n ∷ []) h in
       let count : countIn P (written P F) ≡ length edges / 3 = holds .count-is ∙ count-listed P ok colours edges m start (length room) (n ∷ []) h in
       let accepts : unpackOf P (take n room′) found ≡ accepted (length colours ∷ m ∷ start ∷ length edges / 3 ∷ []) =
       rw file
       (unpack-accepts P (written P F) _ found (check-packed P ok colours edges m start (length room) (n ∷ []) h)
-      (omega (arith, holds .states-are)) (omega (arith, count, third))) in (
+      (omega (arith, holds .states-are)) (omega (arith, count, third))) in
+      let filled = promise-laid hu accepts in (
         hu .answer ∙ accepts,
-        hu .colours-after ∙ rw (accepts, file, colours-packed P ok colours edges m start (length room) (n ∷ []) h),
-        hu .edges-after ∙ rw (accepts, file, edges-packed P ok colours edges m start (length room) (n ∷ []) h),
+        cc filled ∙ ap (λ (cs : List ℕ). laid cs (found .colours)) (ap (coloursIn P) file ∙ colours-packed P ok colours edges m start (length room) (n ∷ []) h),
+        cc filled ∙ ap (λ (es : List ℕ). laid es (found .edges)) (ap (λ (s : List ℕ). flat (edgesIn P s)) file ∙ edges-packed P ok colours edges m start (length room) (n ∷ []) h),
       )

@@ -33,6 +33,9 @@ pub record Rooms : Type 0 where
 abbrev pub rooms : List ℕ → List ℕ → Rooms
 rooms answer classes = record { answer = answer; classes = classes }
 
+abbrev pub both : Rooms → List (List ℕ)
+both room = room .answer ∷ room .classes ∷ []
+
 -- What is asked for reducing an accepted file: its edges are in the table, a row has 64 labels, and the rooms are long enough.
 pub record Foldable (P : Profile) (file : List ℕ) (r : Reading) (T : Table) (room : Rooms) : Type 0 where
   pub usable : Usable P

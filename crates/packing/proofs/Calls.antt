@@ -10,6 +10,7 @@ use lib.ListN.{length}
 use borrow.Author.Tests.{eqb-true}
 use Rattle.refusals.specs.declared.Refusal.{Refusal}
 use Rattle.refusals.specs.Refusals.{accepted, refusalOutcome, laid}
+use Rattle.refusals.proofs.Laws.{promise-refused, promise-accepted}
 use Rattle.layout.specs.declared.Profile.{Profile}
 use Rattle.layout.specs.Layout.{flat, threes, listed, written}
 use Rattle.layout.specs.Code.{Usable}
@@ -37,13 +38,9 @@ module _ (P : Profile) (ok : Usable P) where
 -- what pack's lists make of its answer: nothing of the room is changed by a refusal, and the file is laid into it otherwise
 pub pack-refused : (P : Profile) (cs es : List ℕ) (m st : ℕ) (room : List ℕ) (r : Packed) (why : Refusal) →
     packedOutcome r ≡ packOf P cs es m st (length room) → r ≡ packed.Refused why → PackPromise P cs es m st room r room
-pack-refused P cs es m st room r why h e =
-    let k : packOf P cs es m st (length room) ≡ refusalOutcome why = sym h ∙ ap packedOutcome e in
-    record { answer = h; room-after = rw k }
+pack-refused P cs es m st room r why h e = rw e (promise-refused _ why _ (sym h ∙ ap packedOutcome e))
 
 pub pack-laid : (P : Profile) (cs es : List ℕ) (m st : ℕ) (room : List ℕ) (r : Packed) (n : ℕ) →
     packedOutcome r ≡ packOf P cs es m st (length room) → r ≡ packed.Accepted n →
     PackPromise P cs es m st room (packed.Accepted n) (laid (written P (listed cs es m st)) room)
-pack-laid P cs es m st room r n h e =
-    let k : packOf P cs es m st (length room) ≡ accepted (n ∷ []) = sym h ∙ ap packedOutcome e in
-    record { answer = sym k; room-after = rw k }
+pack-laid P cs es m st room r n h e = promise-accepted _ _ _ (sym h ∙ ap packedOutcome e)

@@ -6,7 +6,7 @@ use denote.Ref.{now}
 use denote.Triple.Clauses.{AtExit}
 use mathlib.Core.Path.{_≡_, sym, ap, _∙_}
 use Rattle.meaning.specs.Cases.{clash}
-use Rattle.refusals.proofs.Laws.{refusal-one}
+use Rattle.refusals.proofs.Laws.{refusal-one, promise-one}
 use Rattle.packing.specs.declared.Packed.{Packed}
 use Rattle.packing.specs.declared.Packed.the-variants as packed
 use Rattle.packing.specs.Promise.{packedOutcome}
@@ -24,5 +24,4 @@ pub pack-contract-one : (κs : Lfts 3) (a : ArgsD pack.signature κs) (r₁ r₂
     (s₁ s₂ : AtExit (endedOf 3 pack-kinds.ps pack-kinds.r) κs) →
     pack-reads.Post κs a r₁ s₁ → pack-reads.Post κs a r₂ s₂ →
     (r₁ ≡ r₂) × (now (s₁ .1 .1 .1 .1 .0) ≡ now (s₂ .1 .1 .1 .1 .0))
-pack-contract-one κs a r₁ r₂ s₁ s₂ p₁ p₂ =
-    (packed-one r₁ r₂ (p₁ .answer ∙ sym (p₂ .answer)), p₁ .room-after ∙ sym (p₂ .room-after))
+pack-contract-one κs a r₁ r₂ s₁ s₂ p₁ p₂ = let one = promise-one p₁ p₂ in (packed-one r₁ r₂ (one .0), cc (one .1))

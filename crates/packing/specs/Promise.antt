@@ -7,7 +7,7 @@ use mathlib.Core.List.{List, [], _∷_}
 use lib.Dec.{eqb}
 use lib.ListN.{length}
 use Rattle.pen.specs.Runs.{Fit}
-use Rattle.refusals.specs.Refusals.{Outcome, accepted, refusalOutcome, roomAfter}
+use Rattle.refusals.specs.Refusals.{Outcome, accepted, refusalOutcome, Lent, lent, Promise}
 use Rattle.layout.specs.declared.Profile.{Profile}
 use Rattle.layout.specs.Layout.{edgeWidths, listed, written}
 use Rattle.layout.specs.Code.{Usable}
@@ -24,15 +24,17 @@ packedOutcome (packed.Refused r) = refusalOutcome r
 unfoldable pub packOf : Profile → List ℕ → List ℕ → ℕ → ℕ → ℕ → Outcome
 packOf P colours edges m start room = writeOf P (listed colours edges m start) (eqb (length edges % 3) 0) room
 
+-- What is written: the file of the filter listed.
+abbrev pub packLent : Profile → List ℕ → List ℕ → ℕ → ℕ → List ℕ → List Lent
+packLent P colours edges m start room = lent (written P (listed colours edges m start)) room ∷ []
+
 -- Accepted: the room begins with the file, the rest is as found. Refused: the room is as found.
-pub record PackPromise (P : Profile) (colours edges : List ℕ) (m start : ℕ) (room : List ℕ) (r : Packed) (room′ : List ℕ)
-    : Type 0 where
-  pub answer : packedOutcome r ≡ packOf P colours edges m start (length room)
-  pub room-after : room′
-      ≡ roomAfter (packOf P colours edges m start (length room)) (written P (listed colours edges m start)) room
+abbrev pub PackPromise : Profile → List ℕ → List ℕ → ℕ → ℕ → List ℕ → Packed → List ℕ → Type 0
+PackPromise P colours edges m start room r room′ =
+    Promise (packedOutcome r) (packOf P colours edges m start (length room)) (packLent P colours edges m start room) (room′ ∷ [])
 
 -- What is asked for writing e edges of a list from bit `at` on into a room.
-pub record Writable (P : Profile) (at : ℕ) (edges : List ℕ) (e : ℕ) (room : List ℕ) : Type 0 where
+pub record Placeable (P : Profile) (at : ℕ) (edges : List ℕ) (e : ℕ) (room : List ℕ) : Type 0 where
   pub usable : Usable P
   pub begin : at ≤ 2096
   pub few : e ≤ 65536

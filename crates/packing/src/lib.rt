@@ -16,7 +16,7 @@ ghost use Rattle.layout.specs.Code.{Usable, Small, edgeOf, edgeIn};
 ghost use Rattle.edges.specs.Faults.{firstFault};
 ghost use Rattle.edges.specs.Walk.{faultOf};
 ghost use Rattle.files.specs.Files.{allBelow, holdable};
-ghost use Rattle.packing.specs.Promise.{packedOutcome, packOf, PackPromise, Writable};
+ghost use Rattle.packing.specs.Promise.{packedOutcome, packOf, PackPromise, Placeable};
 
 // The length of the packed file.
 pub enum Packed {
@@ -187,7 +187,7 @@ fn test_list(edges: &[u8], n: usize, m: usize) -> Verdict
 // Writes the edges behind the colours, from bit `at` on: the room's later part is lent on, with the starting bit inside its
 // first byte.
 fn put_edges(p: Profile, room: &mut [u8], at: usize, edges: &[u8], e: usize)
-    requires { ⌜ Writable p at (now edges) e (now room) ⌝ }
+    requires { ⌜ Placeable p at (now edges) e (now room) ⌝ }
     ensures { λ _. ⌜ now (room .exit) ≡ putFields (now (room .entry)) at (edgeWidths p e) (now (edges .entry)) ⌝ }
 {
     let from = at / 8;
@@ -195,7 +195,7 @@ fn put_edges(p: Profile, room: &mut [u8], at: usize, edges: &[u8], e: usize)
 }
 
 fn put_all(p: Profile, part: &mut [u8], bit: usize, edges: &[u8], e: usize)
-    requires { ⌜ Writable p bit (now edges) e (now part) ⌝ }
+    requires { ⌜ Placeable p bit (now edges) e (now part) ⌝ }
     ensures { λ _. ⌜ now (part .exit) ≡ putFields (now (part .entry)) bit (edgeWidths p e) (now (edges .entry)) ⌝ }
 {
     let mut pen = pen::begin(part, bit);

@@ -6,7 +6,8 @@ use borrow.Fn.World.{ArgsD, ResD}
 use borrow.Fn.Kinds.{endedOf}
 use denote.Ref.{now}
 use denote.Triple.Clauses.{AtExit}
-use mathlib.Core.Path.{_≡_, sym, _∙_}
+use mathlib.Core.Path.{_≡_}
+use Rattle.pierhollow.proofs.Telling.{told-one}
 use Rattle.pierhollow.proofs.pierhollow_check as check
 use Rattle.pierhollow.proofs.pierhollow_check.Kinds as check-kinds
 use Rattle.pierhollow.proofs.pierhollow_check.Reads as check-reads
@@ -26,24 +27,24 @@ use Rattle.pierhollow.proofs.pierhollow_reduce.Reads as reduce-reads
 pub check-to-c-one : (κs : Lfts 2) (a : ArgsD check.signature κs) (r₁ r₂ : ResD check.signature κs)
     (s₁ s₂ : AtExit (endedOf 2 check-kinds.ps check-kinds.r) κs) →
     check-reads.Post κs a r₁ s₁ → check-reads.Post κs a r₂ s₂ → (r₁ ≡ r₂) × (now (s₁ .1 .0) ≡ now (s₂ .1 .0))
-check-to-c-one κs a r₁ r₂ s₁ s₂ p₁ p₂ = (p₁ .number ∙ sym (p₂ .number), p₁ .values-after ∙ sym (p₂ .values-after))
+check-to-c-one κs a r₁ r₂ s₁ s₂ p₁ p₂ = let one = told-one p₁ p₂ in (one .0, one .2)
 
 pub unpack-to-c-one : (κs : Lfts 4) (a : ArgsD unpack.signature κs) (r₁ r₂ : ResD unpack.signature κs)
     (s₁ s₂ : AtExit (endedOf 4 unpack-kinds.ps unpack-kinds.r) κs) →
     unpack-reads.Post κs a r₁ s₁ → unpack-reads.Post κs a r₂ s₂ → (r₁ ≡ r₂) × (now (s₁ .1 .0) ≡ now (s₂ .1 .0)) × (now (s₁ .1 .1 .0) ≡ now (s₂ .1 .1 .0)) × (now (s₁ .1 .1 .1 .0) ≡ now (s₂ .1 .1 .1 .0))
-unpack-to-c-one κs a r₁ r₂ s₁ s₂ p₁ p₂ = (p₁ .told .number ∙ sym (p₂ .told .number), p₁ .colours-after ∙ sym (p₂ .colours-after), p₁ .edges-after ∙ sym (p₂ .edges-after), p₁ .told .values-after ∙ sym (p₂ .told .values-after))
+unpack-to-c-one κs a r₁ r₂ s₁ s₂ p₁ p₂ = let one = told-one p₁ p₂ in (one .0, cc (one .1), cc (one .1), one .2)
 
 pub pack-to-c-one : (κs : Lfts 4) (a : ArgsD pack.signature κs) (r₁ r₂ : ResD pack.signature κs)
     (s₁ s₂ : AtExit (endedOf 4 pack-kinds.ps pack-kinds.r) κs) →
     pack-reads.Post κs a r₁ s₁ → pack-reads.Post κs a r₂ s₂ → (r₁ ≡ r₂) × (now (s₁ .1 .1 .1 .1 .0) ≡ now (s₂ .1 .1 .1 .1 .0)) × (now (s₁ .1 .1 .1 .1 .1 .0) ≡ now (s₂ .1 .1 .1 .1 .1 .0))
-pack-to-c-one κs a r₁ r₂ s₁ s₂ p₁ p₂ = (p₁ .told .number ∙ sym (p₂ .told .number), p₁ .room-after ∙ sym (p₂ .room-after), p₁ .told .values-after ∙ sym (p₂ .told .values-after))
+pack-to-c-one κs a r₁ r₂ s₁ s₂ p₁ p₂ = let one = told-one p₁ p₂ in (one .0, cc (one .1), one .2)
 
 pub trace-to-c-one : (κs : Lfts 4) (a : ArgsD trace.signature κs) (r₁ r₂ : ResD trace.signature κs)
     (s₁ s₂ : AtExit (endedOf 4 trace-kinds.ps trace-kinds.r) κs) →
     trace-reads.Post κs a r₁ s₁ → trace-reads.Post κs a r₂ s₂ → (r₁ ≡ r₂) × (now (s₁ .1 .1 .0) ≡ now (s₂ .1 .1 .0)) × (now (s₁ .1 .1 .1 .0) ≡ now (s₂ .1 .1 .1 .0))
-trace-to-c-one κs a r₁ r₂ s₁ s₂ p₁ p₂ = (p₁ .told .number ∙ sym (p₂ .told .number), p₁ .colours-after ∙ sym (p₂ .colours-after), p₁ .told .values-after ∙ sym (p₂ .told .values-after))
+trace-to-c-one κs a r₁ r₂ s₁ s₂ p₁ p₂ = let one = told-one p₁ p₂ in (one .0, cc (one .1), one .2)
 
 pub reduce-to-c-one : (κs : Lfts 4) (a : ArgsD reduce.signature κs) (r₁ r₂ : ResD reduce.signature κs)
     (s₁ s₂ : AtExit (endedOf 4 reduce-kinds.ps reduce-kinds.r) κs) →
     reduce-reads.Post κs a r₁ s₁ → reduce-reads.Post κs a r₂ s₂ → (r₁ ≡ r₂) × (now (s₁ .1 .0) ≡ now (s₂ .1 .0)) × (now (s₁ .1 .1 .0) ≡ now (s₂ .1 .1 .0)) × (now (s₁ .1 .1 .1 .0) ≡ now (s₂ .1 .1 .1 .0))
-reduce-to-c-one κs a r₁ r₂ s₁ s₂ p₁ p₂ = (p₁ .told .number ∙ sym (p₂ .told .number), p₁ .answer-after ∙ sym (p₂ .answer-after), p₁ .classes-after ∙ sym (p₂ .classes-after), p₁ .told .values-after ∙ sym (p₂ .told .values-after))
+reduce-to-c-one κs a r₁ r₂ s₁ s₂ p₁ p₂ = let one = told-one p₁ p₂ in (one .0, cc (one .1), cc (one .1), one .2)

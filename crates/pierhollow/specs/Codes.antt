@@ -1,10 +1,10 @@
--- What a C caller gets: one number for an answer, and the values in a lent array.
+-- What a C caller gets: one number for an answer, the values in a lent array, and what the call leaves in its rooms.
 -- Assumes nothing.
 use Prim.Native.Nat.{ℕ, suc, _+_, _*_}
 use mathlib.Core.Path.{_≡_}
 use mathlib.Core.List.{List, [], _∷_}
 use lib.ListN.{set}
-use Rattle.refusals.specs.Refusals.{Outcome, accepted, refused}
+use Rattle.refusals.specs.Refusals.{Outcome, accepted, refused, Lent, roomsAfter}
 
 -- 0 for accepted, else place times 256 plus the paper's number.
 abbrev pub codeOf : Outcome → ℕ
@@ -21,7 +21,8 @@ abbrev pub valuesAfter : Outcome → List ℕ → List ℕ
 valuesAfter (accepted vs) array = stored 0 vs array
 valuesAfter (refused number place) array = array
 
--- The number returned and the array of values, by what the call answers.
-pub record Told (answer : Outcome) (values : List ℕ) (r : ℕ) (values′ : List ℕ) : Type 0 where
-  pub number : r ≡ codeOf answer
-  pub values-after : values′ ≡ valuesAfter answer values
+-- The number returned, the array of values and the lent rooms, by the outcome that is due.
+pub record Told (due : Outcome) (rooms : List Lent) (values : List ℕ) (r : ℕ) (left : List (List ℕ)) (values′ : List ℕ) : Type 0 where
+  pub number : r ≡ codeOf due
+  pub rooms-after : left ≡ roomsAfter due rooms
+  pub values-after : values′ ≡ valuesAfter due values

@@ -1,6 +1,6 @@
 -- The promise of reduce in each of its cases.
 -- Assumes nothing.
-use mathlib.Core.Path.{_≡_, _∙_}
+use mathlib.Core.Path.{_≡_, sym}
 use mathlib.Core.Bool.{true, false}
 use mathlib.Core.List.{List}
 use Prim.Native.Nat.{ℕ, _≤_, _<_}
@@ -13,6 +13,7 @@ use Rattle.refusals.specs.declared.Refusal.{Refusal}
 use Rattle.layout.specs.Layout.{written}
 use Rattle.layout.specs.Contents.{statesIn, filterIn}
 use Rattle.refusals.specs.Refusals.{accepted, refusalOutcome, laid}
+use Rattle.refusals.proofs.Laws.{promise-refused, promise-accepted}
 use Rattle.files.specs.Files.{checkOf}
 use Rattle.folding.specs.declared.Counts.{Counts}
 use Rattle.reduction.specs.declared.Reduced.the-variants as variants
@@ -24,24 +25,19 @@ module _ (P : Profile) (s : List ℕ) (room : Rooms) where
   -- a refused file ends the call with that same refusal
   pub reduce-refused : (r : Refusal) → checkOf P s ≡ refusalOutcome r → ReducePromise P s room (variants.Refused r) room
   unfolding reduceOf
-  reduce-refused r h = record { answers = rw h; answer-after = rw h; classes-after = rw h }
+  reduce-refused r h = promise-refused _ r _ (rw h)
 
   module _ (vs : List ℕ) (h : checkOf P s ≡ accepted vs) where
     pub reduce-short : length (room .answer) < length s → ReducePromise P s room (variants.Refused (record { kind = AnswerRoom; place = 0 })) room
     unfolding reduceOf
-    reduce-short l = let t = lt-ltb _ _ l in record { answers = rw (h, t); answer-after = rw (h, t); classes-after = rw (h, t) }
+    reduce-short l = promise-refused _ (record { kind = AnswerRoom; place = 0 }) _ (rw (h, lt-ltb _ _ l))
 
     module _ (roomy : length s ≤ length (room .answer)) where
       pub reduce-few : length (room .classes) < statesIn P s → ReducePromise P s room (variants.Refused (record { kind = ClassRoom; place = 0 })) room
       unfolding reduceOf
-      reduce-few l =
-          let t = le-ltb _ _ roomy in
-          let u = lt-ltb _ _ l in
-          record { answers = rw (h, t, u); answer-after = rw (h, t, u); classes-after = rw (h, t, u) }
+      reduce-few l = promise-refused _ (record { kind = ClassRoom; place = 0 }) _ (rw (h, le-ltb _ _ roomy, lt-ltb _ _ l))
 
       pub reduce-folded : statesIn P s ≤ length (room .classes) → (c : Counts) (left : Rooms) → Folded P s room c left → ReducePromise P s room (variants.Accepted c) left
       unfolding reduceOf
       reduce-folded l c left made =
-          let t = le-ltb _ _ roomy in
-          let u = le-ltb _ _ l in
-          record { answers = made .counts ∙ rw (h, t, u); answer-after = made .answer ∙ rw (h, t, u); classes-after = made .classes ∙ rw (h, t, u) }
+          rw (made .answer, made .classes) (promise-accepted _ _ _ (rw (h, le-ltb _ _ roomy, le-ltb _ _ l) (sym (made .counts))))

@@ -8,7 +8,7 @@ use denote.Ref.{now}
 use denote.Triple.Clauses.{AtExit}
 use mathlib.Core.Path.{_≡_, ap, sym, _∙_}
 use Rattle.meaning.specs.Cases.{clash}
-use Rattle.refusals.proofs.Laws.{refusal-one}
+use Rattle.refusals.proofs.Laws.{refusal-one, promise-one}
 use Rattle.folding.specs.declared.Counts.{Counts}
 use Rattle.reduction.specs.declared.Reduced.{Reduced}
 use Rattle.reduction.specs.declared.Reduced.the-variants as reduced
@@ -35,8 +35,4 @@ reduced-one (reduced.Refused r) (reduced.Accepted b) e = clash cc
 pub reduce-contract-one : (κs : Lfts 3) (a : ArgsD reduce.signature κs) (r₁ r₂ : ResD reduce.signature κs)
     (s₁ s₂ : AtExit (endedOf 3 kinds.ps kinds.r) κs) →
     reads.Post κs a r₁ s₁ → reads.Post κs a r₂ s₂ → (r₁ ≡ r₂) × (now (s₁ .1 .0) ≡ now (s₂ .1 .0)) × (now (s₁ .1 .1 .0) ≡ now (s₂ .1 .1 .0))
-reduce-contract-one κs a r₁ r₂ s₁ s₂ p₁ p₂ = (
-  reduced-one r₁ r₂ (p₁ .answers ∙ sym (p₂ .answers)),
-  p₁ .answer-after ∙ sym (p₂ .answer-after),
-  p₁ .classes-after ∙ sym (p₂ .classes-after),
-)
+reduce-contract-one κs a r₁ r₂ s₁ s₂ p₁ p₂ = let one = promise-one p₁ p₂ in (reduced-one r₁ r₂ (one .0), cc (one .1), cc (one .1))

@@ -1,4 +1,4 @@
--- Laws of refusals: a number tells its kind, tests in a row are taken apart, and a room holds what a promise says.
+-- Laws of refusals: a number tells its kind, tests in a row are taken apart, and a promise is kept in one way.
 -- Assumes nothing.
 use Prim.Native.Nat.{ℕ}
 use mathlib.Core.Path.{_≡_, refl, sym, ap, _∙_}
@@ -12,7 +12,7 @@ use Rattle.meaning.specs.Cases.{clash, test}
 use Rattle.refusals.specs.declared.Kind.{Kind}
 use Rattle.refusals.specs.declared.Kind.the-variants.{TooShort, Start, EdgeCount, Missing, Excess, Filling, Outside, Order, Repeated, AnswerRoom, ClassRoom, Room, Observation, Lists}
 use Rattle.refusals.specs.declared.Refusal.{Refusal}
-use Rattle.refusals.specs.Refusals.{numberOf, Outcome, accepted, refused, refusalOutcome, Test, firstOf, onward, laid, roomAfter}
+use Rattle.refusals.specs.Refusals.{numberOf, Outcome, accepted, refused, refusalOutcome, Test, firstOf, onward, laid, roomAfter, Lent, roomsAfter, Promise}
 
 -- ---- the number tells the kind
 
@@ -85,3 +85,38 @@ first-onward (t ∷ ts) vs next = test (t .given) (λ q. rw q) (λ q. rw q (firs
 -- the beginning of a room that was written
 pub laid-front : (bytes room : List ℕ) (n : ℕ) → length bytes ≡ n → take n (laid bytes room) ≡ bytes
 laid-front bytes room n h = take-at bytes (drop (length bytes) room) n h
+
+-- ---- promises
+
+-- the rooms as they were lent, and with their beginnings written
+abbrev pub asFound : List Lent → List (List ℕ)
+asFound [] = []
+asFound (l ∷ ls) = l .found ∷ asFound ls
+
+abbrev pub allLaid : List Lent → List (List ℕ)
+allLaid [] = []
+allLaid (l ∷ ls) = laid (l .bytes) (l .found) ∷ allLaid ls
+
+rooms-found : (k p : ℕ) (ls : List Lent) → asFound ls ≡ roomsAfter (refused k p) ls
+rooms-found k p [] = refl
+rooms-found k p (l ∷ ls) = ap (λ (rooms : List (List ℕ)). l .found ∷ rooms) (rooms-found k p ls)
+
+rooms-laid : (vs : List ℕ) (ls : List Lent) → allLaid ls ≡ roomsAfter (accepted vs) ls
+rooms-laid vs [] = refl
+rooms-laid vs (l ∷ ls) = ap (λ (rooms : List (List ℕ)). laid (l .bytes) (l .found) ∷ rooms) (rooms-laid vs ls)
+
+-- a call that refuses as it is to leaves every room as found
+pub promise-refused : (due : Outcome) (r : Refusal) (ls : List Lent) → due ≡ refusalOutcome r → Promise (refusalOutcome r) due ls (asFound ls)
+promise-refused due r ls h = record { answer = sym h; rooms-after = rooms-found (numberOf (r .kind)) (r .place) ls ∙ ap (λ (o : Outcome). roomsAfter o ls) (sym h) }
+
+-- one that accepts as it is to writes the beginning of each
+pub promise-accepted : (due : Outcome) (vs : List ℕ) (ls : List Lent) → due ≡ accepted vs → Promise (accepted vs) due ls (allLaid ls)
+promise-accepted due vs ls h = record { answer = sym h; rooms-after = rooms-laid vs ls ∙ ap (λ (o : Outcome). roomsAfter o ls) (sym h) }
+
+-- where a kept promise accepts, the beginning of each room is written
+pub promise-laid : {a due : Outcome} {vs : List ℕ} {ls : List Lent} {left : List (List ℕ)} → Promise a due ls left → due ≡ accepted vs → left ≡ allLaid ls
+promise-laid {vs = vs} {ls = ls} p h = p .rooms-after ∙ ap (λ (o : Outcome). roomsAfter o ls) h ∙ sym (rooms-laid vs ls)
+
+-- two answers, with what they leave in the rooms, that both keep a promise are the same
+pub promise-one : {a b due : Outcome} {ls : List Lent} {left left′ : List (List ℕ)} → Promise a due ls left → Promise b due ls left′ → (a ≡ b) × (left ≡ left′)
+promise-one p q = (p .answer ∙ sym (q .answer), p .rooms-after ∙ sym (q .rooms-after))

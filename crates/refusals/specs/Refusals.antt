@@ -1,6 +1,8 @@
--- Refusals and their numbers, tests in a row, and what a call leaves in a room (document 01, "Numbers of refusal").
+-- Refusals and their numbers, tests in a row, and what a call promises of its answer and of the rooms that it is lent (document 01,
+-- "Numbers of refusal").
 -- Assumes nothing.
 use Prim.Native.Nat.{ℕ}
+use mathlib.Core.Path.{_≡_}
 use mathlib.Core.Bool.{Bool}
 use mathlib.Core.List.{List, [], _∷_, _++_}
 use lib.Dec.{ltb}
@@ -70,3 +72,23 @@ laid bytes room = bytes ++ drop (length bytes) room
 abbrev pub roomAfter : Outcome → List ℕ → List ℕ → List ℕ
 roomAfter (accepted vs) bytes room = laid bytes room
 roomAfter (refused k p) bytes room = room
+
+-- ---- promises
+
+-- A room that a call is lent: what the call writes at its beginning where it accepts, and what it held before.
+pub record Lent : Type 0 where
+  pub bytes : List ℕ
+  pub found : List ℕ
+
+abbrev pub lent : List ℕ → List ℕ → Lent
+lent bytes found = record { bytes = bytes; found = found }
+
+abbrev pub roomsAfter : Outcome → List Lent → List (List ℕ)
+roomsAfter o [] = []
+roomsAfter o (l ∷ ls) = roomAfter o (l .bytes) (l .found) ∷ roomsAfter o ls
+
+-- What a call promises: it answers with the outcome that is due, and leaves the rooms that it was lent as that outcome has them,
+-- every byte and entry.
+pub record Promise (answered due : Outcome) (rooms : List Lent) (left : List (List ℕ)) : Type 0 where
+  pub answer : answered ≡ due
+  pub rooms-after : left ≡ roomsAfter due rooms

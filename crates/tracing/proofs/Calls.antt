@@ -12,7 +12,8 @@ use Rattle.layout.specs.declared.Profile.{Profile}
 use Rattle.refusals.specs.declared.Kind.the-variants.{Room, Observation}
 use Rattle.refusals.specs.declared.Refusal.{Refusal}
 use Rattle.layout.specs.Contents.{labelsIn, filterIn}
-use Rattle.refusals.specs.Refusals.{accepted, refusalOutcome, laid, roomAfter}
+use Rattle.refusals.specs.Refusals.{accepted, refusalOutcome, laid, Lent, Promise}
+use Rattle.refusals.proofs.Laws.{allLaid, promise-refused, promise-accepted}
 use Rattle.files.specs.Files.{checkOf}
 use Rattle.observed.specs.Observed.{firstOutside}
 use Rattle.tracing.specs.declared.Traced.{Traced}
@@ -21,27 +22,27 @@ use Rattle.tracing.specs.Answers.{rideOutcome, tracedOutcome}
 use Rattle.tracing.specs.Tracing.{traceOf}
 use Rattle.tracing.specs.Promise.{TracePromise}
 
-after-ride : (o : Option ℕ) (bytes room : List ℕ) → roomAfter (rideOutcome o) bytes room ≡ laid bytes room
-after-ride none bytes room = refl
-after-ride (some i) bytes room = refl
+-- a ride accepts, wherever it stops
+ridden : (o : Option ℕ) (ls : List Lent) → Promise (rideOutcome o) (rideOutcome o) ls (allLaid ls)
+ridden none ls = promise-accepted _ _ ls refl
+ridden (some i) ls = promise-accepted _ _ ls refl
 
 module _ (P : Profile) (s ys room : List ℕ) where
   pub trace-refused : (why : Refusal) → checkOf P s ≡ refusalOutcome why → TracePromise P s ys room (traced.Refused why) room
   unfolding traceOf
-  trace-refused why h = record { answer = rw h; colours-after = rw h }
+  trace-refused why h = promise-refused _ why _ (rw h)
 
   module _ (vs : List ℕ) (h : checkOf P s ≡ accepted vs) where
     pub trace-short : (ltb 65535 (length ys) || ltb (length room) (length ys + 1)) ≡ true → TracePromise P s ys room (traced.Refused (record { kind = Room; place = 0 })) room
     unfolding traceOf
-    trace-short t = record { answer = rw (h, t); colours-after = rw (h, t) }
+    trace-short t = promise-refused _ (record { kind = Room; place = 0 }) _ (rw (h, t))
 
     module _ (t : (ltb 65535 (length ys) || ltb (length room) (length ys + 1)) ≡ false) where
       pub trace-label : (i : ℕ) → firstOutside (labelsIn P s) ys ≡ some i → TracePromise P s ys room (traced.Refused (record { kind = Observation; place = i })) room
       unfolding traceOf
-      trace-label i o = record { answer = rw (h, t, o); colours-after = rw (h, t, o) }
+      trace-label i o = promise-refused _ (record { kind = Observation; place = i }) _ (rw (h, t, o))
 
       pub trace-ridden : (r : Traced) (room′ : List ℕ) → firstOutside (labelsIn P s) ys ≡ none → tracedOutcome r ≡ rideOutcome (stops (filterIn P s) ys) →
           room′ ≡ laid (shown (filterIn P s) ys) room → TracePromise P s ys room r room′
       unfolding traceOf
-      trace-ridden r room′ o e w =
-          record { answer = e ∙ rw (h, t, o); colours-after = w ∙ rw (h, t, o) (sym (after-ride (stops (filterIn P s) ys) (shown (filterIn P s) ys) room)) }
+      trace-ridden r room′ o e w = rw (h, t, o, e, w) (ridden (stops (filterIn P s) ys) _)

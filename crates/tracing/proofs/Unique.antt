@@ -8,7 +8,7 @@ use denote.Ref.{now}
 use denote.Triple.Clauses.{AtExit}
 use mathlib.Core.Path.{_≡_, refl, ap, sym, _∙_}
 use Rattle.meaning.specs.Cases.{clash}
-use Rattle.refusals.proofs.Laws.{refusal-one}
+use Rattle.refusals.proofs.Laws.{refusal-one, promise-one}
 use Rattle.tracing.specs.declared.Traced.{Traced}
 use Rattle.tracing.specs.declared.Traced.the-variants as traced
 use Rattle.tracing.specs.Answers.{tracedOutcome}
@@ -30,5 +30,4 @@ traced-one (traced.Refused r) (traced.Stopped j) e = clash cc
 pub trace-contract-one : (κs : Lfts 3) (a : ArgsD trace.signature κs) (r₁ r₂ : ResD trace.signature κs)
     (s₁ s₂ : AtExit (endedOf 3 kinds.ps kinds.r) κs) →
     reads.Post κs a r₁ s₁ → reads.Post κs a r₂ s₂ → (r₁ ≡ r₂) × (now (s₁ .1 .1 .0) ≡ now (s₂ .1 .1 .0))
-trace-contract-one κs a r₁ r₂ s₁ s₂ p₁ p₂ =
-    (traced-one r₁ r₂ (p₁ .answer ∙ sym (p₂ .answer)), p₁ .colours-after ∙ sym (p₂ .colours-after))
+trace-contract-one κs a r₁ r₂ s₁ s₂ p₁ p₂ = let one = promise-one p₁ p₂ in (traced-one r₁ r₂ (one .0), cc (one .1))

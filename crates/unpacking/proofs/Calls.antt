@@ -15,7 +15,7 @@ use Rattle.meaning.specs.Cases.{clash, or-left, or-right}
 use Rattle.refusals.specs.declared.Kind.the-variants.{Room}
 use Rattle.refusals.specs.declared.Refusal.{Refusal}
 use Rattle.refusals.specs.Refusals.{Outcome, accepted, refused, refusalOutcome, firstOf, onward, laid}
-use Rattle.refusals.proofs.Laws.{first-accepted}
+use Rattle.refusals.proofs.Laws.{first-accepted, promise-refused, promise-accepted}
 use Rattle.layout.specs.declared.Profile.{Profile}
 use Rattle.layout.specs.declared.Reading.{Reading}
 use Rattle.layout.specs.Layout.{headerBits, edgesBegin, flat}
@@ -52,12 +52,12 @@ unpack-checked P s vs room h = go (checkOf P s) refl h
 -- a refused file ends the call with that same refusal
 pub unpack-refused : (P : Profile) (s : List ℕ) (room : Rooms) (r : Refusal) → checkOf P s ≡ refusalOutcome r → UnpackPromise P s room (unpacked.Refused r) room
 unfolding unpackOf
-unpack-refused P s room r h = record { answer = rw h; colours-after = rw h; edges-after = rw h }
+unpack-refused P s room r h = promise-refused _ r _ (rw h)
 
 module _ (P : Profile) (s : List ℕ) (r : Reading) (is : ReadIs P s r) (room : Rooms) where
   pub short : (length (room .colours) < r .states) ⊎ (length (room .edges) < 3 * r .edges) → UnpackPromise P s room (unpacked.Refused (record { kind = Room; place = 0 })) room
   unfolding unpackOf
-  short l = let k = is .answer in record { answer = rw (k, given l); colours-after = rw (k, given l); edges-after = rw (k, given l) }
+  short l = promise-refused _ (record { kind = Room; place = 0 }) _ (rw (is .answer, given l))
     where
       given : (length (room .colours) < r .states) ⊎ (length (room .edges) < 3 * r .edges)
           → (ltb (length (room .colours)) (statesIn P s) || ltb (length (room .edges)) (3 * countIn P s)) ≡ true
@@ -67,8 +67,7 @@ module _ (P : Profile) (s : List ℕ) (r : Reading) (is : ReadIs P s r) (room : 
   pub unpack-filled : r .states ≤ length (room .colours) → 3 * r .edges ≤ length (room .edges) →
       UnpackPromise P s room (unpacked.Accepted r) (rooms (laid (coloursIn P s) (room .colours)) (laid (flat (edgesIn P s)) (room .edges)))
   unpack-filled lc le =
-      let k = unpack-accepts P s _ room (is .answer) (omega (arith, is .states-are)) (omega (arith, is .count-is)) in
-      record { answer = sym k; colours-after = rw k; edges-after = rw k }
+      promise-accepted _ _ _ (unpack-accepts P s _ room (is .answer) (omega (arith, is .states-are)) (omega (arith, is .count-is)))
 
 -- the colours and the edges as they are read, laid into the rooms
 pub colours-laid : (P : Profile) (s room : List ℕ) (at n : ℕ) → at ≡ headerBits P → n ≡ statesIn P s →

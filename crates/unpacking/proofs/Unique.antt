@@ -6,7 +6,7 @@ use denote.Ref.{now}
 use denote.Triple.Clauses.{AtExit}
 use mathlib.Core.Path.{_≡_, sym, ap, _∙_}
 use Rattle.meaning.specs.Cases.{clash}
-use Rattle.refusals.proofs.Laws.{refusal-one}
+use Rattle.refusals.proofs.Laws.{refusal-one, promise-one}
 use Rattle.checking.proofs.Unique.{reading-one}
 use Rattle.unpacking.specs.declared.Unpacked.{Unpacked}
 use Rattle.unpacking.specs.declared.Unpacked.the-variants as unpacked
@@ -25,5 +25,4 @@ pub unpack-contract-one : (κs : Lfts 3) (a : ArgsD unpack.signature κs) (r₁ 
     (s₁ s₂ : AtExit (endedOf 3 unpack-kinds.ps unpack-kinds.r) κs) →
     unpack-reads.Post κs a r₁ s₁ → unpack-reads.Post κs a r₂ s₂ →
     (r₁ ≡ r₂) × (now (s₁ .1 .0) ≡ now (s₂ .1 .0)) × (now (s₁ .1 .1 .0) ≡ now (s₂ .1 .1 .0))
-unpack-contract-one κs a r₁ r₂ s₁ s₂ p₁ p₂ =
-    (unpacked-one r₁ r₂ (p₁ .answer ∙ sym (p₂ .answer)), p₁ .colours-after ∙ sym (p₂ .colours-after), p₁ .edges-after ∙ sym (p₂ .edges-after))
+unpack-contract-one κs a r₁ r₂ s₁ s₂ p₁ p₂ = let one = promise-one p₁ p₂ in (unpacked-one r₁ r₂ (one .0), cc (one .1), cc (one .1))

@@ -7,7 +7,7 @@ use mathlib.Core.Bool.{_||_}
 use mathlib.Core.List.{List, [], _∷_}
 use lib.Dec.{ltb}
 use lib.ListN.{length}
-use Rattle.refusals.specs.Refusals.{Outcome, accepted, refusalOutcome, Test, test, firstOf, onward, roomAfter}
+use Rattle.refusals.specs.Refusals.{Outcome, accepted, refusalOutcome, Test, test, firstOf, onward, Lent, lent, Promise}
 use Rattle.layout.specs.declared.Profile.{Profile}
 use Rattle.layout.specs.Layout.{flat}
 use Rattle.layout.specs.Contents.{statesIn, countIn, coloursIn, edgesIn}
@@ -28,6 +28,9 @@ pub record Rooms : Type 0 where
 abbrev pub rooms : List ℕ → List ℕ → Rooms
 rooms colours edges = record { colours = colours; edges = edges }
 
+abbrev pub both : Rooms → List (List ℕ)
+both room = room .colours ∷ room .edges ∷ []
+
 -- 12: the colour room is below n, or the edge room below 3e.
 abbrev pub unpackTests : Profile → List ℕ → Rooms → List Test
 unpackTests P file room =
@@ -36,11 +39,14 @@ unpackTests P file room =
 unfoldable pub unpackOf : Profile → List ℕ → Rooms → Outcome
 unpackOf P file room = onward (checkOf P file) (firstOf (unpackTests P file room) (accepted (numbersIn P file)))
 
+-- What is written: the n colours, and the 3e bytes of the edges.
+abbrev pub unpackLent : Profile → List ℕ → Rooms → List Lent
+unpackLent P file found = lent (coloursIn P file) (found .colours) ∷ lent (flat (edgesIn P file)) (found .edges) ∷ []
+
 -- Accepted: the first n and the first 3e bytes of the two rooms are filled, the rest is as found. Refused: both are as found.
-pub record UnpackPromise (P : Profile) (file : List ℕ) (found : Rooms) (r : Unpacked) (left : Rooms) : Type 0 where
-  pub answer : unpackedOutcome r ≡ unpackOf P file found
-  pub colours-after : left .colours ≡ roomAfter (unpackOf P file found) (coloursIn P file) (found .colours)
-  pub edges-after : left .edges ≡ roomAfter (unpackOf P file found) (flat (edgesIn P file)) (found .edges)
+abbrev pub UnpackPromise : Profile → List ℕ → Rooms → Unpacked → Rooms → Type 0
+UnpackPromise P file found r left =
+    Promise (unpackedOutcome r) (unpackOf P file found) (unpackLent P file found) (both left)
 
 -- What is asked for reading e edges from bit `at` on into a room.
 pub record Readable (P : Profile) (at e : ℕ) (room : List ℕ) : Type 0 where

@@ -16,22 +16,10 @@ code-requires : tie.Need-code-requires
 code-requires c κs = let a = c .before .before .before .before .before .before .before .before .before .before .args in pack-low (now (a .colours)) (now (a .edges)) (a .m) (a .start) (length (now (a .room))) _ _ (sym (c .before .before .before .before .before .pack .ensures .answer) ∙ ap packedOutcome (c .before .why .given .1))
 
 returns : tie.Need-returns
-returns c =
-    let a = c .before .before .before .before .before .before .before .before .before .before .before .before .args in
-    let made = c .before .before .before .before .before .before .before .pack .ensures in
-    record {
-      told = told-accepted (packOf large (now (a .colours)) (now (a .edges)) (a .m) (a .start) (length (now (a .room)))) _ (now (a .values)) (c .tell-length .result) _ (sym (made .answer) ∙ ap packedOutcome (c .before .before .before .length .given .1)) (c .tell-length .ensures .0) (c .tell-length .ensures .1);
-      room-after = made .room-after;
-    }
+returns c = told-accepted (c .before .before .before .before .before .before .before .pack .ensures) _ _ (c .tell-length .result) _ (ap packedOutcome (c .before .before .before .length .given .1)) (c .tell-length .ensures .0) (c .tell-length .ensures .1)
 
 returns-2 : tie.Need-returns-2
-returns-2 c =
-    let a = c .before .before .before .before .before .before .before .before .before .before .before .args in
-    let made = c .before .before .before .before .before .before .pack .ensures in
-    record {
-      told = told-refused (packOf large (now (a .colours)) (now (a .edges)) (a .m) (a .start) (length (now (a .room)))) _ _ (now (a .values)) (c .code .result) (sym (made .answer) ∙ ap packedOutcome (c .before .before .why .given .1)) (c .code .ensures);
-      room-after = made .room-after;
-    }
+returns-2 c = told-refused (c .before .before .before .before .before .before .pack .ensures) _ _ _ (c .code .result) (ap packedOutcome (c .before .before .why .given .1)) (c .code .ensures)
 
 pub pierhollow-pack-spec : {M : Type 1} → statement M
 pierhollow-pack-spec =

@@ -14,27 +14,13 @@ use Rattle.pierhollow.proofs.pierhollow_reduce.Statement.{statement}
 use Rattle.pierhollow.proofs.pierhollow_reduce.Tie as tie
 
 code-requires : tie.Need-code-requires
-code-requires c κs = let a = c .before .before .before .before .before .before .before .before .before .before .before .before .before .args in reduce-low (now (a .file)) (rooms (now (a .answer)) (now (a .classes))) _ _ (sym (c .before .before .before .before .before .before .before .reduce .ensures .answers) ∙ ap reducedOutcome (c .before .why .given .1))
+code-requires c κs = let a = c .before .before .before .before .before .before .before .before .before .before .before .before .before .args in reduce-low (now (a .file)) (rooms (now (a .answer)) (now (a .classes))) _ _ (sym (c .before .before .before .before .before .before .before .reduce .ensures .answer) ∙ ap reducedOutcome (c .before .why .given .1))
 
 returns : tie.Need-returns
-returns c =
-    let a = c .before .before .before .before .before .before .before .before .before .before .before .before .before .before .before .args in
-    let made = c .before .before .before .before .before .before .before .before .before .reduce .ensures in
-    record {
-      told = told-accepted (reduceOf large (now (a .file)) (rooms (now (a .answer)) (now (a .classes)))) _ (now (a .values)) (c .tell-counts .result) _ (sym (made .answers) ∙ ap reducedOutcome (c .before .before .before .counts .given .1)) (c .tell-counts .ensures .0) (c .tell-counts .ensures .1);
-      answer-after = made .answer-after;
-      classes-after = made .classes-after;
-    }
+returns c = told-accepted (c .before .before .before .before .before .before .before .before .before .reduce .ensures) _ _ (c .tell-counts .result) _ (ap reducedOutcome (c .before .before .before .counts .given .1)) (c .tell-counts .ensures .0) (c .tell-counts .ensures .1)
 
 returns-2 : tie.Need-returns-2
-returns-2 c =
-    let a = c .before .before .before .before .before .before .before .before .before .before .before .before .before .before .args in
-    let made = c .before .before .before .before .before .before .before .before .reduce .ensures in
-    record {
-      told = told-refused (reduceOf large (now (a .file)) (rooms (now (a .answer)) (now (a .classes)))) _ _ (now (a .values)) (c .code .result) (sym (made .answers) ∙ ap reducedOutcome (c .before .before .why .given .1)) (c .code .ensures);
-      answer-after = made .answer-after;
-      classes-after = made .classes-after;
-    }
+returns-2 c = told-refused (c .before .before .before .before .before .before .before .before .reduce .ensures) _ _ _ (c .code .result) (ap reducedOutcome (c .before .before .why .given .1)) (c .code .ensures)
 
 pub pierhollow-reduce-spec : {M : Type 1} → statement M
 pierhollow-reduce-spec =

@@ -20,34 +20,13 @@ code-requires : tie.Need-code-requires
 code-requires c κs = let a = c .before .before .before .before .before .before .before .before .before .before .args in trace-low (now (a .file)) (now (a .observations)) (length (now (a .colours))) _ _ (sym (c .before .before .before .before .before .trace .ensures .answer) ∙ ap tracedOutcome (c .before .why .given .1))
 
 returns : tie.Need-returns
-returns c =
-    let a = c .before .before .before .before .before .before .before .before .before .before .before .args in
-    let made = c .before .before .before .before .before .before .trace .ensures in
-    record {
-      told = told-accepted (traceOf large (now (a .file)) (now (a .observations)) (length (now (a .colours)))) _ (now (a .values)) (c .tell-ride .result) _
-          (sym (made .answer) ∙ ap tracedOutcome (c .before .before .enum-told .given .1)) (c .tell-ride .ensures .0) (c .tell-ride .ensures .1);
-      colours-after = made .colours-after;
-    }
+returns c = told-accepted (c .before .before .before .before .before .before .trace .ensures) _ _ (c .tell-ride .result) _ (ap tracedOutcome (c .before .before .enum-told .given .1)) (c .tell-ride .ensures .0) (c .tell-ride .ensures .1)
 
 returns-2 : tie.Need-returns-2
-returns-2 c =
-    let a = c .before .before .before .before .before .before .before .before .before .before .before .before .args in
-    let made = c .before .before .before .before .before .before .before .trace .ensures in
-    record {
-      told = told-accepted (traceOf large (now (a .file)) (now (a .observations)) (length (now (a .colours)))) _ (now (a .values)) (c .tell-ride2 .result) _
-          (sym (made .answer) ∙ ap tracedOutcome (c .before .before .before .i .given .1)) (c .tell-ride2 .ensures .0) (c .tell-ride2 .ensures .1);
-      colours-after = made .colours-after;
-    }
+returns-2 c = told-accepted (c .before .before .before .before .before .before .before .trace .ensures) _ _ (c .tell-ride2 .result) _ (ap tracedOutcome (c .before .before .before .i .given .1)) (c .tell-ride2 .ensures .0) (c .tell-ride2 .ensures .1)
 
 returns-3 : tie.Need-returns-3
-returns-3 c =
-    let a = c .before .before .before .before .before .before .before .before .before .before .before .args in
-    let made = c .before .before .before .before .before .before .trace .ensures in
-    record {
-      told = told-refused (traceOf large (now (a .file)) (now (a .observations)) (length (now (a .colours)))) _ _ (now (a .values)) (c .code .result)
-          (sym (made .answer) ∙ ap tracedOutcome (c .before .before .why .given .1)) (c .code .ensures);
-      colours-after = made .colours-after;
-    }
+returns-3 c = told-refused (c .before .before .before .before .before .before .trace .ensures) _ _ _ (c .code .result) (ap tracedOutcome (c .before .before .why .given .1)) (c .code .ensures)
 
 pub pierhollow-trace-spec : {M : Type 1} → statement M
 pierhollow-trace-spec =

@@ -15,24 +15,10 @@ code-requires : tie.Need-code-requires
 code-requires c κs = let a = c .before .before .before .before .before .before .before .before .before .before .before .before .before .args in unpack-low (now (a .file)) (rooms (now (a .colours)) (now (a .edges))) _ _ (sym (c .before .before .before .before .before .before .before .unpack .ensures .answer) ∙ ap unpackedOutcome (c .before .why .given .1))
 
 returns : tie.Need-returns
-returns c =
-    let a = c .before .before .before .before .before .before .before .before .before .before .before .before .before .before .before .args in
-    let made = c .before .before .before .before .before .before .before .before .before .unpack .ensures in
-    record {
-      told = told-accepted (unpackOf large (now (a .file)) (rooms (now (a .colours)) (now (a .edges)))) _ (now (a .values)) (c .tell-reading .result) _ (sym (made .answer) ∙ ap unpackedOutcome (c .before .before .before .reading .given .1)) (c .tell-reading .ensures .0) (c .tell-reading .ensures .1);
-      colours-after = made .colours-after;
-      edges-after = made .edges-after;
-    }
+returns c = told-accepted (c .before .before .before .before .before .before .before .before .before .unpack .ensures) _ _ (c .tell-reading .result) _ (ap unpackedOutcome (c .before .before .before .reading .given .1)) (c .tell-reading .ensures .0) (c .tell-reading .ensures .1)
 
 returns-2 : tie.Need-returns-2
-returns-2 c =
-    let a = c .before .before .before .before .before .before .before .before .before .before .before .before .before .before .args in
-    let made = c .before .before .before .before .before .before .before .before .unpack .ensures in
-    record {
-      told = told-refused (unpackOf large (now (a .file)) (rooms (now (a .colours)) (now (a .edges)))) _ _ (now (a .values)) (c .code .result) (sym (made .answer) ∙ ap unpackedOutcome (c .before .before .why .given .1)) (c .code .ensures);
-      colours-after = made .colours-after;
-      edges-after = made .edges-after;
-    }
+returns-2 c = told-refused (c .before .before .before .before .before .before .before .before .unpack .ensures) _ _ _ (c .code .result) (ap unpackedOutcome (c .before .before .why .given .1)) (c .code .ensures)
 
 pub pierhollow-unpack-spec : {M : Type 1} → statement M
 pierhollow-unpack-spec =
