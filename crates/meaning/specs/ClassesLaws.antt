@@ -31,14 +31,14 @@ module _ (mem : ℕ → Bool) (clash : ℕ → ℕ → Bool) where
   unfolding groups
   older n i w = List·getD-append (groups mem clash n) _ 0 i (rw groups-length w)
 
-  groups-at : (n i : ℕ) → i < n → at (groups mem clash n) i ≡ at (groups mem clash (suc i)) i
+  pub groups-at : (n i : ℕ) → i < n → at (groups mem clash n) i ≡ at (groups mem clash (suc i)) i
   groups-at zero i h = absurd (not-suc-le-zero h)
   groups-at (suc n) i h = test (eqb i n)
       (λ q. rw (eqb-true i n q))
       (λ q. let w : i < n = omega (arith, eqb-false i n q) in
       older n i w ∙ groups-at n i w)
 
-  groups-last : (k : ℕ) → mem k ≡ true → at (groups mem clash (suc k)) k ≡ free mem clash (groups mem clash k) k
+  pub groups-last : (k : ℕ) → mem k ≡ true → at (groups mem clash (suc k)) k ≡ free mem clash (groups mem clash k) k
   unfolding groups
   groups-last k e = getD-at (groups mem clash k) _ [] 0 k (groups-length k) ∙ rw e
 
@@ -63,10 +63,10 @@ module _ (mem : ℕ → Bool) (clash : ℕ → ℕ → Bool) where
 -- ---- a split of class c by group numbers G
 
 module _ (n : ℕ) (P : List ℕ) (nm : Named n P) (c : ℕ) (hc : c < n) (oc : at P c ≡ c) (G : List ℕ) where
-  abbrev pick : ℕ → ℕ
+  abbrev pub pick : ℕ → ℕ
   pick s = least (λ t. eqb (at P t) c && eqb (at G t) (at G s)) n
 
-  split-in : (s : ℕ) → s < n → at P s ≡ c → at (split n P c G) s ≡ pick s
+  pub split-in : (s : ℕ) → s < n → at P s ≡ c → at (split n P c G) s ≡ pick s
   unfolding split
   split-in s h e = at-tab n _ s h ∙ rw (eq-eqb (at P s) c e)
 
@@ -74,12 +74,12 @@ module _ (n : ℕ) (P : List ℕ) (nm : Named n P) (c : ℕ) (hc : c < n) (oc : 
   unfolding split
   split-out s h e = at-tab n _ s h ∙ rw (ne-eqb (at P s) c e)
 
-  record Picked (s : ℕ) : Type 0 where
-    low : pick s ≤ s
-    class : at P (pick s) ≡ c
-    group : at G (pick s) ≡ at G s
+  pub record Picked (s : ℕ) : Type 0 where
+    pub low : pick s ≤ s
+    pub class : at P (pick s) ≡ c
+    pub group : at G (pick s) ≡ at G s
 
-  picked : (s : ℕ) → s < n → at P s ≡ c → Picked s
+  pub picked : (s : ℕ) → s < n → at P s ≡ c → Picked s
   picked s h e =
       let r = least-of (λ t. eqb (at P t) c && eqb (at G t) (at G s)) n s h (and-intro (eq-eqb _ _ e) (eq-eqb (at G s) (at G s) refl)) in
       record {

@@ -141,7 +141,7 @@ module _ (F : Filter) (few : states F ≤ 256) (ok : inOrder F ≡ true) where
   unfolding reduce
   calm-end = reduction-calm (task F) fair
 
-  live-in : (s : ℕ) → s < states F → live F s ≡ true → In (states F) (reduce F .names) s
+  pub live-in : (s : ℕ) → s < states F → live F s ≡ true → In (states F) (reduce F .names) s
   live-in s h l = record { state = h; seat = good .all s h l }
 
   in-live : (s : ℕ) → In (states F) (reduce F .names) s → live F s ≡ true
@@ -150,7 +150,7 @@ module _ (F : Filter) (few : states F ≤ 256) (ok : inOrder F ≡ true) where
   onward : (s y t : ℕ) → In (states F) (reduce F .names) s → edge F s y ≡ some t → In (states F) (reduce F .names) t
   onward s y t h e = live-in t (fits F few ok .within s y t e .2) (target-live s y t (in-live s h) e)
 
-  states-reduced : states (reduced F) ≡ classes (states F) (reduce F .names)
+  pub states-reduced : states (reduced F) ≡ classes (states F) (reduce F .names)
   unfolding reduced merged
   states-reduced = length-tab _ _
 

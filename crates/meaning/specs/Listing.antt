@@ -78,6 +78,19 @@ module _ (a b : ℕ) where
       (λ q. let q′ = eqb-false n a q in
       find-left (listed next n m) (row (next n) n m) (row-other (next n) n m q′) ∙ find-listed next n m (omega (arith, q′)) l)
 
+-- ---- equal edges give equal lists
+
+row-cong : (f g : ℕ → Option ℕ) (s y : ℕ) → ((i : ℕ) → i < y → f i ≡ g i) → row f s y ≡ row g s y
+unfolding row
+row-cong f g s zero h = refl
+row-cong f g s (suc y) h = ap₂ (λ (a b : List Edge). a ++ b) (row-cong f g s y (λ i l. h i (omega arith))) (ap (cell s y) (h y (omega arith)))
+
+pub listed-cong : (f g : ℕ → ℕ → Option ℕ) (n m : ℕ) → ((k y : ℕ) → k < n → y < m → f k y ≡ g k y) → listed f n m ≡ listed g n m
+unfolding listed
+listed-cong f g zero m h = refl
+listed-cong f g (suc n) m h =
+    ap₂ (λ (a b : List Edge). a ++ b) (listed-cong f g n m (λ k y l. h k y (omega arith))) (row-cong (f n) (g n) n m (λ y l. h n y (omega arith) l))
+
 -- ---- counted
 
 -- the pairs a below n, b below m that pass

@@ -100,7 +100,7 @@ later-none : (o : Option ℕ) → later o ≡ none → o ≡ none
 later-none none e = refl
 later-none (some i) e = cc
 
-some-inj : {a b : ℕ} → _≡_ {A = Option ℕ} (some a) (some b) → a ≡ b
+pub some-inj : {a b : ℕ} → _≡_ {A = Option ℕ} (some a) (some b) → a ≡ b
 some-inj e = cc
 
 stuck : _≡_ {A = Option ℕ} (some 0) none → ⊥

@@ -1,8 +1,8 @@
 -- The filter that the code writes is the filter of the classes. Assumes nothing.
-use Prim.Native.Nat.{ℕ, zero, suc, _+_, _≤_, _<_, _^_}
-use mathlib.Core.Path.{_≡_, refl, sym, ap, ap₂, _∙_}
+use Prim.Native.Nat.{ℕ, _+_, _≤_, _<_, _^_}
+use mathlib.Core.Path.{_≡_, refl, sym, ap, _∙_}
 use mathlib.Core.Bool.{true, _&&_}
-use mathlib.Core.List.{List, [], _∷_, _++_}
+use mathlib.Core.List.{List, [], _∷_}
 use mathlib.Core.Option.{Option, none, some}
 use native.Mathlib.Omega.{arith}
 use lib.Dec.{eqb}
@@ -12,8 +12,8 @@ use Rattle.meaning.specs.SearchLaws.{at-tab, length-tab, tab-cong, count-max}
 use Rattle.meaning.specs.Classes as Classes
 use Rattle.meaning.specs.Classes.{classes, number}
 use Rattle.meaning.specs.Traced.{opt, number-lt, name-is}
-use Rattle.meaning.specs.Filter.{Edge}
-use Rattle.meaning.specs.Reduced.{has, nameOf, mapped, class-edge, edge′, cell, row, listed}
+use Rattle.meaning.specs.Reduced.{has, nameOf, mapped, class-edge, edge′, listed}
+use Rattle.meaning.specs.Listing.{listed-cong}
 use Rattle.layout.specs.declared.Profile.{Profile}
 use Rattle.layout.specs.declared.Reading.{Reading}
 use Rattle.layout.specs.Layout.{lengthOf}
@@ -32,17 +32,6 @@ ordered n P = tab (classes n P) (nameOf n P)
 -- the values laid into a room are its first
 pub take-laid : (values room l : List ℕ) (k : ℕ) → l ≡ laid values room → k ≡ length values → take k l ≡ values
 take-laid values room l k e h = ap (take k) e ∙ laid-front values room k (sym h)
-
-row-cong : (f g : ℕ → Option ℕ) (s y : ℕ) → ((i : ℕ) → i < y → f i ≡ g i) → row f s y ≡ row g s y
-unfolding row
-row-cong f g s zero h = refl
-row-cong f g s (suc y) h = ap₂ (λ (a b : List Edge). a ++ b) (row-cong f g s y (λ i l. h i (omega arith))) (ap (cell s y) (h y (omega arith)))
-
-listed-cong : (f g : ℕ → ℕ → Option ℕ) (n m : ℕ) → ((k y : ℕ) → k < n → y < m → f k y ≡ g k y) → listed f n m ≡ listed g n m
-unfolding listed
-listed-cong f g zero m h = refl
-listed-cong f g (suc n) m h =
-    ap₂ (λ (a b : List Edge). a ++ b) (listed-cong f g n m (λ k y l. h k y (omega arith))) (row-cong (f n) (g n) n m (λ y l. h n y (omega arith) l))
 
 module _ {p : Profile} {T₀ : Table} {colours names : List ℕ} {r : Reading} {answer list-room : ℕ} (can : Foldable p T₀ colours names r answer list-room) where
   abbrev n : ℕ

@@ -1,0 +1,5 @@
+pub mod NewNumbers
+pub mod Mirror
+pub mod Conflicts
+pub mod Alone
+pub mod Again

@@ -1,0 +1,237 @@
+-- Class names and the same names in new numbers: a round keeps them the same. Assumes nothing.
+use Prim.Native.Nat.{ℕ, zero, suc, _≤_, _<_}
+use mathlib.Core.Path.{_≡_, refl, sym, ap, _∙_, subst}
+use mathlib.Core.Bool.{Bool, true, false, not, _&&_}
+use mathlib.Core.List.{List}
+use native.Mathlib.Nat.{not-suc-le-zero}
+use native.Mathlib.Omega.{arith}
+use lib.Dec.{eqb, ltb}
+use borrow.Author.Tests.{eqb-true, eqb-false, eq-eqb, ltb-true, ltb-false, not-false}
+use Rattle.meaning.specs.Search.{any, least, at}
+use Rattle.meaning.specs.Cases.{test, same², no-both, and-intro, and-left, and-right}
+use Rattle.meaning.specs.SearchLaws.{any-elim, least-below}
+use Rattle.meaning.specs.Classes.{parted, first, free, groups, split}
+use Rattle.meaning.specs.ClassesLaws.{Named, pair, unparted, name-own}
+use Rattle.meaning.specs.ClassesLaws.{groups-at, groups-last, groups-apart, split-in, split-out, split-all, picked}
+use Rattle.again.specs.NewNumbers.{NewNumbers, old-one, old-mono, least-old, least-neither}
+
+-- P′ is P in new numbers: so P has one name for all states of one new number.
+pub record Mirror (n k : ℕ) (new old : ℕ → ℕ) (P P′ : List ℕ) : Type 0 where
+  pub same : (s : ℕ) → s < n → at P s ≡ old (at P′ (new s))
+  pub below : (i : ℕ) → i < k → at P′ i < k
+
+-- States with the new numbers i and j that conflict.
+pub record Lifted (n : ℕ) (new : ℕ → ℕ) (clash : ℕ → ℕ → Bool) (i j : ℕ) : Type 0 where
+  pub one : ℕ
+  pub other : ℕ
+  pub one-lt : one < n
+  pub other-lt : other < n
+  pub one-new : new one ≡ i
+  pub other-new : new other ≡ j
+  pub clashes : clash one other ≡ true
+
+-- Two new numbers conflict where states of theirs do. A conflict is one from either side.
+pub record Matched (n k : ℕ) (new : ℕ → ℕ) (clash clash′ : ℕ → ℕ → Bool) : Type 0 where
+  pub down : (s t : ℕ) → s < n → t < n → clash s t ≡ true → clash′ (new s) (new t) ≡ true
+  pub up : (i j : ℕ) → i < k → j < k → clash′ i j ≡ true → Lifted n new clash i j
+  pub turn : (s t : ℕ) → clash s t ≡ true → clash t s ≡ true
+  pub turn′ : (i j : ℕ) → clash′ i j ≡ true → clash′ j i ≡ true
+  pub never : (i : ℕ) → clash′ i i ≡ true → ⊥
+
+-- ---- conflicting members, whichever is lower
+
+module _ (clash : ℕ → ℕ → Bool) (turn : (s t : ℕ) → clash s t ≡ true → clash t s ≡ true)
+    (n s t : ℕ) (hs : s < n) (ht : t < n) (ne : s ≡ t → ⊥) (x : clash s t ≡ true) where
+  parted-either : (P : List ℕ) (c : ℕ) → at P s ≡ c → at P t ≡ c → parted n clash P c ≡ true
+  parted-either P c es et = test (parted n clash P c) (λ q. q) (λ q. test (ltb s t)
+      (λ l. no-both x (unparted n clash P c q s t (ltb-true _ _ l) ht es et))
+      (λ l. no-both (turn s t x) (unparted n clash P c q t s (omega (arith, ltb-false s t l)) hs et es)))
+
+  groups-either : (mem : ℕ → Bool) → mem s ≡ true → mem t ≡ true → at (groups mem clash n) s ≡ at (groups mem clash n) t → ⊥
+  groups-either mem ms mt e = test (ltb s t)
+      (λ l. groups-apart mem clash n s t (ltb-true _ _ l) ht ms mt x e)
+      (λ l. groups-apart mem clash n t s (omega (arith, ltb-false s t l)) hs mt ms (turn s t x) (sym e))
+
+-- an earlier member that conflicts with t and has group g
+record Taken (mem : ℕ → Bool) (clash : ℕ → ℕ → Bool) (G : List ℕ) (t g : ℕ) : Type 0 where
+  by : ℕ
+  earlier : by < t
+  member : mem by ≡ true
+  clashes : clash by t ≡ true
+  group : at G by ≡ g
+
+-- each group number below that of a member is taken
+taken : (mem : ℕ → Bool) (clash : ℕ → ℕ → Bool) (n t g : ℕ) → t < n → mem t ≡ true → g < at (groups mem clash n) t
+    → Taken mem clash (groups mem clash n) t g
+unfolding free
+taken mem clash n t g h e l =
+    let G = groups mem clash t in
+    let used : ℕ → Bool = λ g. any (λ u. mem u && (clash u t && eqb (at G u) g)) t in
+    let w : g < least (λ g. not (used g)) t = subst (λ (i : ℕ). g < i) (groups-at mem clash n t h ∙ groups-last mem clash t e) l in
+    let r = any-elim (λ u. mem u && (clash u t && eqb (at G u) g)) t (not-false (used g) (least-below (λ g. not (used g)) t g w)) in
+    let s = r .0 in
+    let x = and-right (mem s) (clash s t && eqb (at G s) g) (r .2) in
+    record {
+      by = s;
+      earlier = r .1;
+      member = and-left (mem s) (clash s t && eqb (at G s) g) (r .2);
+      clashes = and-left (clash s t) (eqb (at G s) g) x;
+      group = groups-at mem clash n s (omega (arith, r .1)) ∙ sym (groups-at mem clash t s (r .1))
+          ∙ eqb-true (at G s) g (and-right (clash s t) (eqb (at G s) g) x);
+    }
+
+-- ---- names and conflicts that are the same in new numbers
+
+module _ {n k : ℕ} {new old : ℕ → ℕ} (numbers : NewNumbers n k new old) {clash clash′ : ℕ → ℕ → Bool}
+    (matched : Matched n k new clash clash′) {P P′ : List ℕ} (mirror : Mirror n k new old P P′) where
+  name-old : (i : ℕ) → i < k → at P (old i) ≡ old (at P′ i)
+  name-old i l = mirror .same (old i) (numbers .old-lt i l) ∙ ap (λ (j : ℕ). old (at P′ j)) (numbers .new-old i l)
+
+  name-new : (s : ℕ) → s < n → new (at P s) ≡ at P′ (new s)
+  name-new s l = ap new (mirror .same s l) ∙ numbers .new-old (at P′ (new s)) (mirror .below (new s) (numbers .new-lt s l))
+
+  parted-down : (c : ℕ) → c < n → parted n clash P c ≡ true → parted k clash′ P′ (new c) ≡ true
+  parted-down c l e =
+      let p = pair n clash P c e in
+      let a = p .lower in
+      let b = p .higher in
+      let hb = p .inside in
+      let ha : a < n = omega (arith, p .ascend) in
+      let x = matched .down a b ha hb (p .clashes) in
+      parted-either clash′ (matched .turn′) k (new a) (new b) (numbers .new-lt a ha) (numbers .new-lt b hb)
+      (λ o. matched .never (new a) (subst (λ (j : ℕ). clash′ (new a) j ≡ true) (sym o) x)) x P′ (new c)
+      (sym (name-new a ha) ∙ ap new (p .lower-in)) (sym (name-new b hb) ∙ ap new (p .higher-in))
+
+  parted-up : (i : ℕ) → i < k → parted k clash′ P′ i ≡ true → parted n clash P (old i) ≡ true
+  parted-up i l e =
+      let p = pair k clash′ P′ i e in
+      let h = p .ascend in
+      let m = matched .up (p .lower) (p .higher) (omega (arith, p .inside)) (p .inside) (p .clashes) in
+      parted-either clash (matched .turn) n (m .one) (m .other) (m .one-lt) (m .other-lt)
+      (λ o. omega (arith, h, m .one-new, m .other-new, ap new o)) (m .clashes) P (old i)
+      (mirror .same (m .one) (m .one-lt) ∙ ap (λ (j : ℕ). old (at P′ j)) (m .one-new) ∙ ap old (p .lower-in))
+      (mirror .same (m .other) (m .other-lt) ∙ ap (λ (j : ℕ). old (at P′ j)) (m .other-new) ∙ ap old (p .higher-in))
+
+  -- the class that a round takes is the same
+  pub first-old : first k clash′ P′ < k → first n clash P ≡ old (first k clash′ P′)
+  unfolding first
+  first-old = least-old numbers (parted n clash P) (parted k clash′ P′) parted-up parted-down
+
+  pub first-neither : k ≤ first k clash′ P′ → n ≤ first n clash P
+  unfolding first
+  first-neither = least-neither numbers (parted n clash P) (parted k clash′ P′) parted-up parted-down
+
+  -- ---- a round at the class with new number d
+
+  module _ (right : Named n P) (right′ : Named k P′) (d : ℕ) (hd : d < k) (e : parted k clash′ P′ d ≡ true) where
+    abbrev c : ℕ
+    c = old d
+
+    abbrev mem : ℕ → Bool
+    mem s = eqb (at P s) (old d)
+
+    abbrev mem′ : ℕ → Bool
+    mem′ i = eqb (at P′ i) d
+
+    abbrev G : List ℕ
+    G = groups (λ s. eqb (at P s) (old d)) clash n
+
+    abbrev G′ : List ℕ
+    G′ = groups (λ i. eqb (at P′ i) d) clash′ k
+
+    hc : c < n
+    hc = numbers .old-lt d hd
+
+    oc : at P c ≡ c
+    oc = name-own n clash P right c hc (parted-up d hd e)
+
+    od : at P′ d ≡ d
+    od = name-own k clash′ P′ right′ d hd e
+
+    member-old : (i : ℕ) → i < k → at P′ i ≡ d → at P (old i) ≡ c
+    member-old i l m = name-old i l ∙ ap old m
+
+    member-new : (s : ℕ) → s < n → at P s ≡ c → at P′ (new s) ≡ d
+    member-new s l m = sym (name-new s l) ∙ ap new m ∙ numbers .new-old d hd
+
+    split-group : (s : ℕ) → s < n → at P s ≡ c → at G (at (split n P c G) s) ≡ at G s
+    split-group s l m = ap (at G) (split-in n P right c hc oc G s l m) ∙ picked n P right c hc oc G s l m .group
+
+    -- Where the round keeps the states of one new number together,
+    module _ (even : (s : ℕ) → s < n → at (split n P c G) s ≡ at (split n P c G) (old (new s))) where
+      -- they have one group,
+      one-group : (s : ℕ) → s < n → at P s ≡ c → at G s ≡ at G (old (new s))
+      one-group s l m =
+          let h = numbers .new-lt s l in
+          sym (split-group s l m) ∙ ap (at G) (even s l)
+          ∙ split-group (old (new s)) (numbers .old-lt (new s) h) (member-old (new s) h (member-new s l m))
+
+      module _ (i : ℕ) (h : i < k) (m : at P′ i ≡ d) (before : (j : ℕ) → j < i → at P′ j ≡ d → at G′ j ≡ at G (old j)) where
+        not-lower : at G′ i < at G (old i) → ⊥
+        not-lower l =
+            let t = taken mem clash n (old i) (at G′ i) (numbers .old-lt i h) (eq-eqb _ _ (member-old i h m)) l in
+            let s = t .by in
+            let early = t .earlier in
+            let hs : s < n = omega (arith, numbers .old-lt i h) in
+            let j = new s in
+            let hj = numbers .new-lt s hs in
+            let ji : j < i = test (ltb j i) (λ q. ltb-true _ _ q)
+            (λ q. absurd (omega (arith, old-mono numbers i j (ltb-false _ _ q) hj, numbers .old-new s hs))) in
+            let ms = eqb-true _ _ (t .member) in
+            let mj = member-new s hs ms in
+            let x : clash′ j i ≡ true = subst (λ (a : ℕ). clash′ j a ≡ true) (numbers .new-old i h)
+            (matched .down s (old i) hs (numbers .old-lt i h) (t .clashes)) in
+            groups-apart mem′ clash′ k j i ji h (eq-eqb _ _ mj) (eq-eqb _ _ m) x (before j ji mj ∙ sym (one-group s hs ms) ∙ t .group)
+
+        not-higher : at G (old i) < at G′ i → ⊥
+        not-higher l =
+            let t = taken mem′ clash′ k i (at G (old i)) h (eq-eqb _ _ m) l in
+            let j = t .by in
+            let ji = t .earlier in
+            let mj = eqb-true (at P′ j) d (t .member) in
+            let x = matched .up j i (omega arith) h (t .clashes) in
+            let a = x .one in
+            let b = x .other in
+            let ma : at P a ≡ c = mirror .same a (x .one-lt) ∙ ap (λ (u : ℕ). old (at P′ u)) (x .one-new) ∙ ap old mj in
+            let mb : at P b ≡ c = mirror .same b (x .other-lt) ∙ ap (λ (u : ℕ). old (at P′ u)) (x .other-new) ∙ ap old m in
+            groups-either clash (matched .turn) n a b (x .one-lt) (x .other-lt)
+            (λ o. omega (arith, ji, x .one-new, x .other-new, ap new o)) (x .clashes) mem (eq-eqb _ _ ma) (eq-eqb _ _ mb)
+            (one-group a (x .one-lt) ma ∙ ap (λ (u : ℕ). at G (old u)) (x .one-new) ∙ sym (before j ji mj) ∙ t .group
+            ∙ sym (one-group b (x .other-lt) mb ∙ ap (λ (u : ℕ). at G (old u)) (x .other-new)))
+
+      -- which is that of the new number,
+      same-group : (b i : ℕ) → i < b → i < k → at P′ i ≡ d → at G′ i ≡ at G (old i)
+      same-group zero i l h m = absurd (not-suc-le-zero l)
+      same-group (suc b) i l h m =
+          let before : (j : ℕ) → j < i → at P′ j ≡ d → at G′ j ≡ at G (old j) = λ j ji. same-group b j (omega arith) (omega arith) in
+          test (ltb (at G′ i) (at G (old i)))
+          (λ q. absurd (not-lower i h m before (ltb-true _ _ q)))
+          (λ q. test (ltb (at G (old i)) (at G′ i))
+          (λ z. absurd (not-higher i h m before (ltb-true _ _ z)))
+          (λ z. omega (arith, ltb-false (at G′ i) (at G (old i)) q, ltb-false (at G (old i)) (at G′ i) z)))
+
+      -- and the names after the round are the same.
+      split-same : (s : ℕ) → s < n → at (split n P c G) s ≡ old (at (split k P′ d G′) (new s))
+      split-same s l =
+          let h = numbers .new-lt s l in
+          test (eqb (at P′ (new s)) d)
+          (λ q. let m = eqb-true _ _ q in
+          let ms : at P s ≡ c = mirror .same s l ∙ ap old m in
+          split-in n P right c hc oc G s l ms
+          ∙ least-old numbers (λ t. eqb (at P t) c && eqb (at G t) (at G s)) (λ i. eqb (at P′ i) d && eqb (at G′ i) (at G′ (new s)))
+          (λ i hi y. let v = same² (at P′ i) d (at G′ i) (at G′ (new s)) y in
+          and-intro (eq-eqb _ _ (member-old i hi (v .0)))
+          (eq-eqb _ _ (sym (same-group k i hi hi (v .0)) ∙ v .1 ∙ same-group k (new s) h h m ∙ sym (one-group s l ms))))
+          (λ t ht y. let v = same² (at P t) c (at G t) (at G s) y in
+          let hi = numbers .new-lt t ht in
+          let mt = member-new t ht (v .0) in
+          and-intro (eq-eqb _ _ mt)
+          (eq-eqb _ _ (same-group k (new t) hi hi mt ∙ sym (one-group t ht (v .0)) ∙ v .1 ∙ one-group s l ms ∙ sym (same-group k (new s) h h m))))
+          (omega (arith, h, picked k P′ right′ d hd od G′ (new s) h m .low))
+          ∙ ap old (sym (split-in k P′ right′ d hd od G′ (new s) h m)))
+          (λ q. let ne = eqb-false _ _ q in
+          split-out n P right c hc oc G s l (λ m. ne (member-new s l m)) ∙ mirror .same s l
+          ∙ ap old (sym (split-out k P′ right′ d hd od G′ (new s) h ne)))
+
+      pub split-mirror : Mirror n k new old (split n P c G) (split k P′ d G′)
+      split-mirror = record { same = split-same; below = λ i l. split-all k P′ right′ d hd od G′ i l (mirror .below i l) }

@@ -1,0 +1,43 @@
+-- States that become fewer: their new numbers, and searches over the states and over the new numbers. Assumes nothing.
+use Prim.Native.Nat.{ℕ, _≤_, _<_}
+use mathlib.Core.Path.{_≡_, sym, ap, _∙_}
+use mathlib.Core.Bool.{Bool, true, false}
+use native.Mathlib.Omega.{arith}
+use lib.Dec.{eqb}
+use borrow.Author.Tests.{eqb-true, eqb-false}
+use Rattle.meaning.specs.Search.{least}
+use Rattle.meaning.specs.Cases.{test, no-both}
+use Rattle.meaning.specs.SearchLaws.{least-le, least-ok, least-none, least-is, least-empty}
+
+-- n states become k: `new s` is the new number of s, `old i` the smallest state with the new number i, and these ascend.
+pub record NewNumbers (n k : ℕ) (new old : ℕ → ℕ) : Type 0 where
+  pub new-lt : (s : ℕ) → s < n → new s < k
+  pub old-lt : (i : ℕ) → i < k → old i < n
+  pub new-old : (i : ℕ) → i < k → new (old i) ≡ i
+  pub old-new : (s : ℕ) → s < n → old (new s) ≤ s
+  pub rising : (i j : ℕ) → i < j → j < k → old i < old j
+
+module _ {n k : ℕ} {new old : ℕ → ℕ} (numbers : NewNumbers n k new old) where
+  pub old-one : (i j : ℕ) → i < k → j < k → old i ≡ old j → i ≡ j
+  old-one i j hi hj e = sym (numbers .new-old i hi) ∙ ap new e ∙ numbers .new-old j hj
+
+  pub old-mono : (i j : ℕ) → i ≤ j → j < k → old i ≤ old j
+  old-mono i j h l = test (eqb i j)
+      (λ q. omega (arith, ap old (eqb-true i j q)))
+      (λ q. omega (arith, numbers .rising i j (omega (arith, eqb-false i j q)) l))
+
+  -- Two searches that find the same new numbers: what the one finds is the smallest state of what the other finds.
+  module _ (p q : ℕ → Bool) (up : (i : ℕ) → i < k → q i ≡ true → p (old i) ≡ true)
+      (down : (s : ℕ) → s < n → p s ≡ true → q (new s) ≡ true) where
+    pub least-old : least q k < k → least p n ≡ old (least q k)
+    least-old h =
+        let o = numbers .old-lt (least q k) h in
+        least-is p n (old (least q k)) o (up (least q k) h (least-ok q k h)) (λ s l. test (p s)
+        (λ e. let w : s < n = omega arith in
+        absurd (omega (arith, old-mono (least q k) (new s) (least-le q k (new s) (down s w e)) (numbers .new-lt s w), numbers .old-new s w)))
+        (λ e. e))
+
+    pub least-neither : k ≤ least q k → n ≤ least p n
+    least-neither h = least-empty p n (λ s l. test (p s)
+        (λ e. no-both (down s l e) (least-none q k (new s) h (numbers .new-lt s l)))
+        (λ e. e))
