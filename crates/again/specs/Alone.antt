@@ -2,7 +2,7 @@
 -- filter. Assumes nothing.
 use Prim.Native.Nat.{ℕ, zero, suc, _≤_, _<_}
 use mathlib.Core.Path.{_≡_, refl, sym, ap, _∙_}
-use mathlib.Core.Bool.{Bool, true, false, _&&_}
+use mathlib.Core.Bool.{Bool, true, _&&_}
 use mathlib.Core.List.{List, [], _∷_}
 use mathlib.Core.Option.{Option, none, some}
 use native.Mathlib.Omega.{arith}
@@ -11,7 +11,7 @@ use lib.ListN.{length}
 use borrow.Author.Tests.{eqb-true, eq-eqb, ne-eqb}
 use Rattle.meaning.specs.Search.{least, count, tab, at}
 use Rattle.meaning.specs.Cases.{test, no-both, and-intro, and-left, and-right}
-use Rattle.meaning.specs.SearchLaws.{least-max, least-is, least-empty, tab-cong}
+use Rattle.meaning.specs.SearchLaws.{least-is, least-empty, tab-cong}
 use Rattle.meaning.specs.Filter.{Edge, Filter, states}
 use Rattle.meaning.specs.Trace.{edge, colour, target}
 use Rattle.meaning.specs.Classes.{named, classes, number}
@@ -54,42 +54,47 @@ module _ (F : Filter) (fits : Fits F) (P : List ℕ) (alone : Alone (states F) P
   mapped-alone none h = refl
   mapped-alone (some t) h = ap some (number-alone (states F) P alone t (h t refl))
 
+  abbrev n : ℕ
+  n = states F
+
   abbrev bears : ℕ → ℕ → ℕ → Bool
   bears s y t = eqb (at P t) s && has (edge F t y)
 
   -- the edge of a state that is a class is the state's
-  edge-alone : (s y : ℕ) → s < states F → edge F (least (bears s y) (states F)) y ≡ edge F s y
+  edge-alone : (s y : ℕ) → s < n → edge F (least (bears s y) n) y ≡ edge F s y
   edge-alone s y h = test (has (edge F s y))
-      (λ q. ap (λ (t : ℕ). edge F t y) (least-is (bears s y) (states F) s h (and-intro (eq-eqb (at P s) s (alone s h)) q)
+      (λ q. ap (λ (t : ℕ). edge F t y) (least-is (bears s y) n s h (and-intro (eq-eqb (at P s) s (alone s h)) q)
       (λ t l. rw (ne-eqb (at P t) s (λ e. omega (arith, alone t (omega arith)))))))
-      (λ q. let none-bears : states F ≤ least (bears s y) (states F) = least-empty (bears s y) (states F) (λ t l. test (bears s y t)
+      (λ q. let nobody : n ≤ least (bears s y) n = least-empty (bears s y) n (λ t l. test (bears s y t)
       (λ b. let e = sym (alone t l) ∙ eqb-true _ _ (and-left (eqb (at P t) s) (has (edge F t y)) b) in
       no-both (and-right (eqb (at P t) s) (has (edge F t y)) b) (ap (λ (u : ℕ). has (edge F u y)) e ∙ q))
       (λ b. b)) in
-      opt (edge F (least (bears s y) (states F)) y)
+      opt (edge F (least (bears s y) n) y)
       (λ o. o ∙ opt (edge F s y) (λ v. sym v) (λ t v. no-both {b = has (edge F s y)} (rw v) q))
-      (λ t o. absurd (omega (arith, none-bears, fits .within (least (bears s y) (states F)) y t o .0))))
+      (λ t o. absurd (omega (arith, fits .within (least (bears s y) n) y t o .0))))
 
-  edge′-alone : (s y : ℕ) → s < states F → edge′ (edge F) (states F) P s y ≡ edge F s y
+  edge′-alone : (s y : ℕ) → s < n → edge′ (edge F) n P s y ≡ edge F s y
   unfolding edge′ class-edge
   edge′-alone s y h =
-      ap (λ (c : ℕ). class-edge (edge F) (states F) P c y) (name-alone (states F) P alone s h)
+      ap (λ (c : ℕ). class-edge (edge F) n P c y) (name-alone n P alone s h)
       ∙ ap (mapped P) (edge-alone s y h) ∙ mapped-alone (edge F s y) (λ t e. fits .within s y t e .2)
 
   module _ (next : ℕ → ℕ → Option ℕ) (edges : F .edges ≡ listed next (states F) (F .labels)) where
-    listed-alone : listed (edge′ (edge F) (states F) P) (states F) (F .labels) ≡ F .edges
+    listed-alone : listed (edge′ (edge F) n P) n (F .labels) ≡ F .edges
     unfolding edge
-    listed-alone = listed-cong _ next (states F) (F .labels) (λ s y h l.
-        edge′-alone s y h ∙ ap (λ (es : List Edge). target es s y) edges ∙ find-listed s y next (states F) (F .labels) h l) ∙ sym edges
+    listed-alone =
+        listed-cong (edge′ (edge F) n P) next n (F .labels) (λ s y h l.
+        edge′-alone s y h ∙ ap (λ (es : List Edge). target es s y) edges ∙ find-listed s y next n (F .labels) h l)
+        ∙ sym edges
 
     pub merged-alone : merged F P ≡ F
     unfolding merged colour
     merged-alone =
-        let n = states F in
         let many = classes-alone n P alone in
+        let begins = number-alone n P alone (F .start) (fits .begins) in
         let hues : tab (classes n P) (λ i. colour F (nameOf n P i)) ≡ F .colours =
         ap (λ (i : ℕ). tab i (λ j. colour F (nameOf n P j))) many
         ∙ tab-cong n _ (at (F .colours)) (λ s h. ap (colour F) (name-alone n P alone s h)) ∙ tab-at (F .colours) in
         let listing : listed (edge′ (edge F) n P) (classes n P) (F .labels) ≡ F .edges =
         ap (λ (i : ℕ). listed (edge′ (edge F) n P) i (F .labels)) many ∙ listed-alone in
-        λ i. record { colours = hues i; labels = F .labels; start = number-alone n P alone (F .start) (fits .begins) i; edges = listing i }
+        λ i. record { colours = hues i; labels = F .labels; start = begins i; edges = listing i }

@@ -1,12 +1,12 @@
 -- What a conflict of two states is: a label at which their edges lead to different classes. Assumes nothing.
 use Prim.Native.Nat.{ℕ, _<_}
 use mathlib.Core.Path.{_≡_, refl, sym, ap, _∙_}
-use mathlib.Core.Bool.{Bool, true, false}
+use mathlib.Core.Bool.{true, false}
 use mathlib.Core.List.{List}
 use mathlib.Core.Option.{Option, none, some}
 use lib.Dec.{eqb}
 use borrow.Author.Tests.{eqb-false, ne-eqb, not-true}
-use Rattle.meaning.specs.Search.{any, at}
+use Rattle.meaning.specs.Search.{at}
 use Rattle.meaning.specs.Cases.{no-both}
 use Rattle.meaning.specs.SearchLaws.{any-intro, any-elim}
 use Rattle.meaning.specs.Reduced.{apart, conflict}

@@ -1,7 +1,7 @@
 -- Class names and the same names in new numbers: a round keeps them the same. Assumes nothing.
 use Prim.Native.Nat.{ℕ, zero, suc, _≤_, _<_}
 use mathlib.Core.Path.{_≡_, refl, sym, ap, _∙_, subst}
-use mathlib.Core.Bool.{Bool, true, false, not, _&&_}
+use mathlib.Core.Bool.{Bool, true, not, _&&_}
 use mathlib.Core.List.{List}
 use native.Mathlib.Nat.{not-suc-le-zero}
 use native.Mathlib.Omega.{arith}
@@ -13,12 +13,20 @@ use Rattle.meaning.specs.SearchLaws.{any-elim, least-below}
 use Rattle.meaning.specs.Classes.{parted, first, free, groups, split}
 use Rattle.meaning.specs.ClassesLaws.{Named, pair, unparted, name-own}
 use Rattle.meaning.specs.ClassesLaws.{groups-at, groups-last, groups-apart, split-in, split-out, split-all, picked}
-use Rattle.again.specs.NewNumbers.{NewNumbers, old-one, old-mono, least-old, least-neither}
+use Rattle.again.specs.NewNumbers.{NewNumbers, old-mono, least-old, least-neither}
 
--- P′ is P in new numbers: so P has one name for all states of one new number.
+-- P′ is P in new numbers.
 pub record Mirror (n k : ℕ) (new old : ℕ → ℕ) (P P′ : List ℕ) : Type 0 where
   pub same : (s : ℕ) → s < n → at P s ≡ old (at P′ (new s))
   pub below : (i : ℕ) → i < k → at P′ i < k
+
+pub name-is-old : {n k : ℕ} {new old : ℕ → ℕ} {P P′ : List ℕ} → Mirror n k new old P P′
+    → (s i : ℕ) → s < n → new s ≡ i → at P s ≡ old (at P′ i)
+name-is-old {old = old} {P′ = P′} mirror s i l e = mirror .same s l ∙ ap (λ (j : ℕ). old (at P′ j)) e
+
+-- The states of one new number have one name.
+abbrev pub Together : ℕ → (ℕ → ℕ) → (ℕ → ℕ) → List ℕ → Type 0
+Together n new old P = (s : ℕ) → s < n → at P s ≡ at P (old (new s))
 
 -- States with the new numbers i and j that conflict.
 pub record Lifted (n : ℕ) (new : ℕ → ℕ) (clash : ℕ → ℕ → Bool) (i j : ℕ) : Type 0 where
@@ -66,9 +74,10 @@ taken : (mem : ℕ → Bool) (clash : ℕ → ℕ → Bool) (n t g : ℕ) → t 
 unfolding free
 taken mem clash n t g h e l =
     let G = groups mem clash t in
-    let used : ℕ → Bool = λ g. any (λ u. mem u && (clash u t && eqb (at G u) g)) t in
-    let w : g < least (λ g. not (used g)) t = subst (λ (i : ℕ). g < i) (groups-at mem clash n t h ∙ groups-last mem clash t e) l in
-    let r = any-elim (λ u. mem u && (clash u t && eqb (at G u) g)) t (not-false (used g) (least-below (λ g. not (used g)) t g w)) in
+    let hits : ℕ → ℕ → Bool = λ g u. mem u && (clash u t && eqb (at G u) g) in
+    let unused : ℕ → Bool = λ g. not (any (hits g) t) in
+    let w : g < least unused t = subst (λ (i : ℕ). g < i) (groups-at mem clash n t h ∙ groups-last mem clash t e) l in
+    let r = any-elim (hits g) t (not-false (any (hits g) t) (least-below unused t g w)) in
     let s = r .0 in
     let x = and-right (mem s) (clash s t && eqb (at G s) g) (r .2) in
     record {
@@ -84,9 +93,6 @@ taken mem clash n t g h e l =
 
 module _ {n k : ℕ} {new old : ℕ → ℕ} (numbers : NewNumbers n k new old) {clash clash′ : ℕ → ℕ → Bool}
     (matched : Matched n k new clash clash′) {P P′ : List ℕ} (mirror : Mirror n k new old P P′) where
-  name-old : (i : ℕ) → i < k → at P (old i) ≡ old (at P′ i)
-  name-old i l = mirror .same (old i) (numbers .old-lt i l) ∙ ap (λ (j : ℕ). old (at P′ j)) (numbers .new-old i l)
-
   name-new : (s : ℕ) → s < n → new (at P s) ≡ at P′ (new s)
   name-new s l = ap new (mirror .same s l) ∙ numbers .new-old (at P′ (new s)) (mirror .below (new s) (numbers .new-lt s l))
 
@@ -109,8 +115,8 @@ module _ {n k : ℕ} {new old : ℕ → ℕ} (numbers : NewNumbers n k new old) 
       let m = matched .up (p .lower) (p .higher) (omega (arith, p .inside)) (p .inside) (p .clashes) in
       parted-either clash (matched .turn) n (m .one) (m .other) (m .one-lt) (m .other-lt)
       (λ o. omega (arith, h, m .one-new, m .other-new, ap new o)) (m .clashes) P (old i)
-      (mirror .same (m .one) (m .one-lt) ∙ ap (λ (j : ℕ). old (at P′ j)) (m .one-new) ∙ ap old (p .lower-in))
-      (mirror .same (m .other) (m .other-lt) ∙ ap (λ (j : ℕ). old (at P′ j)) (m .other-new) ∙ ap old (p .higher-in))
+      (name-is-old mirror (m .one) (p .lower) (m .one-lt) (m .one-new) ∙ ap old (p .lower-in))
+      (name-is-old mirror (m .other) (p .higher) (m .other-lt) (m .other-new) ∙ ap old (p .higher-in))
 
   -- the class that a round takes is the same
   pub first-old : first k clash′ P′ < k → first n clash P ≡ old (first k clash′ P′)
@@ -148,8 +154,8 @@ module _ {n k : ℕ} {new old : ℕ → ℕ} (numbers : NewNumbers n k new old) 
     od : at P′ d ≡ d
     od = name-own k clash′ P′ right′ d hd e
 
-    member-old : (i : ℕ) → i < k → at P′ i ≡ d → at P (old i) ≡ c
-    member-old i l m = name-old i l ∙ ap old m
+    member-old : (s i : ℕ) → s < n → new s ≡ i → at P′ i ≡ d → at P s ≡ c
+    member-old s i l e m = name-is-old mirror s i l e ∙ ap old m
 
     member-new : (s : ℕ) → s < n → at P s ≡ c → at P′ (new s) ≡ d
     member-new s l m = sym (name-new s l) ∙ ap new m ∙ numbers .new-old d hd
@@ -158,30 +164,36 @@ module _ {n k : ℕ} {new old : ℕ → ℕ} (numbers : NewNumbers n k new old) 
     split-group s l m = ap (at G) (split-in n P right c hc oc G s l m) ∙ picked n P right c hc oc G s l m .group
 
     -- Where the round keeps the states of one new number together,
-    module _ (even : (s : ℕ) → s < n → at (split n P c G) s ≡ at (split n P c G) (old (new s))) where
+    module _ (together : Together n new old (split n P c G)) where
       -- they have one group,
-      one-group : (s : ℕ) → s < n → at P s ≡ c → at G s ≡ at G (old (new s))
-      one-group s l m =
+      one-group : (s i : ℕ) → s < n → new s ≡ i → at P s ≡ c → at G s ≡ at G (old i)
+      one-group s i l e m =
           let h = numbers .new-lt s l in
-          sym (split-group s l m) ∙ ap (at G) (even s l)
-          ∙ split-group (old (new s)) (numbers .old-lt (new s) h) (member-old (new s) h (member-new s l m))
+          let o = numbers .old-lt (new s) h in
+          sym (split-group s l m) ∙ ap (at G) (together s l)
+          ∙ split-group (old (new s)) o (member-old (old (new s)) (new s) o (numbers .new-old (new s) h) (member-new s l m))
+          ∙ ap (λ (j : ℕ). at G (old j)) e
 
       module _ (i : ℕ) (h : i < k) (m : at P′ i ≡ d) (before : (j : ℕ) → j < i → at P′ j ≡ d → at G′ j ≡ at G (old j)) where
         not-lower : at G′ i < at G (old i) → ⊥
         not-lower l =
-            let t = taken mem clash n (old i) (at G′ i) (numbers .old-lt i h) (eq-eqb _ _ (member-old i h m)) l in
+            let hi = numbers .old-lt i h in
+            let t = taken mem clash n (old i) (at G′ i) hi (eq-eqb _ _ (member-old (old i) i hi (numbers .new-old i h) m)) l in
             let s = t .by in
-            let early = t .earlier in
-            let hs : s < n = omega (arith, numbers .old-lt i h) in
             let j = new s in
-            let hj = numbers .new-lt s hs in
-            let ji : j < i = test (ltb j i) (λ q. ltb-true _ _ q)
-            (λ q. absurd (omega (arith, old-mono numbers i j (ltb-false _ _ q) hj, numbers .old-new s hs))) in
-            let ms = eqb-true _ _ (t .member) in
+            let hs : s < n = omega (arith, t .earlier) in
+            let ms = eqb-true (at P s) c (t .member) in
             let mj = member-new s hs ms in
+            let ji : j < i = test (ltb j i) (λ q. ltb-true _ _ q) (λ q. absurd (omega (
+              arith,
+              old-mono numbers i j (ltb-false _ _ q) (numbers .new-lt s hs),
+              numbers .old-new s hs,
+              t .earlier,
+            ))) in
             let x : clash′ j i ≡ true = subst (λ (a : ℕ). clash′ j a ≡ true) (numbers .new-old i h)
-            (matched .down s (old i) hs (numbers .old-lt i h) (t .clashes)) in
-            groups-apart mem′ clash′ k j i ji h (eq-eqb _ _ mj) (eq-eqb _ _ m) x (before j ji mj ∙ sym (one-group s hs ms) ∙ t .group)
+            (matched .down s (old i) hs hi (t .clashes)) in
+            groups-apart mem′ clash′ k j i ji h (eq-eqb _ _ mj) (eq-eqb _ _ m) x
+            (before j ji mj ∙ sym (one-group s j hs refl ms) ∙ t .group)
 
         not-higher : at G (old i) < at G′ i → ⊥
         not-higher l =
@@ -190,25 +202,27 @@ module _ {n k : ℕ} {new old : ℕ → ℕ} (numbers : NewNumbers n k new old) 
             let ji = t .earlier in
             let mj = eqb-true (at P′ j) d (t .member) in
             let x = matched .up j i (omega arith) h (t .clashes) in
-            let a = x .one in
-            let b = x .other in
-            let ma : at P a ≡ c = mirror .same a (x .one-lt) ∙ ap (λ (u : ℕ). old (at P′ u)) (x .one-new) ∙ ap old mj in
-            let mb : at P b ≡ c = mirror .same b (x .other-lt) ∙ ap (λ (u : ℕ). old (at P′ u)) (x .other-new) ∙ ap old m in
-            groups-either clash (matched .turn) n a b (x .one-lt) (x .other-lt)
+            let ma = member-old (x .one) j (x .one-lt) (x .one-new) mj in
+            let mb = member-old (x .other) i (x .other-lt) (x .other-new) m in
+            groups-either clash (matched .turn) n (x .one) (x .other) (x .one-lt) (x .other-lt)
             (λ o. omega (arith, ji, x .one-new, x .other-new, ap new o)) (x .clashes) mem (eq-eqb _ _ ma) (eq-eqb _ _ mb)
-            (one-group a (x .one-lt) ma ∙ ap (λ (u : ℕ). at G (old u)) (x .one-new) ∙ sym (before j ji mj) ∙ t .group
-            ∙ sym (one-group b (x .other-lt) mb ∙ ap (λ (u : ℕ). at G (old u)) (x .other-new)))
+            (one-group (x .one) j (x .one-lt) (x .one-new) ma ∙ sym (before j ji mj) ∙ t .group
+            ∙ sym (one-group (x .other) i (x .other-lt) (x .other-new) mb))
 
       -- which is that of the new number,
       same-group : (b i : ℕ) → i < b → i < k → at P′ i ≡ d → at G′ i ≡ at G (old i)
       same-group zero i l h m = absurd (not-suc-le-zero l)
       same-group (suc b) i l h m =
-          let before : (j : ℕ) → j < i → at P′ j ≡ d → at G′ j ≡ at G (old j) = λ j ji. same-group b j (omega arith) (omega arith) in
+          let before : (j : ℕ) → j < i → at P′ j ≡ d → at G′ j ≡ at G (old j) =
+          λ j ji. same-group b j (omega arith) (omega arith) in
           test (ltb (at G′ i) (at G (old i)))
           (λ q. absurd (not-lower i h m before (ltb-true _ _ q)))
           (λ q. test (ltb (at G (old i)) (at G′ i))
           (λ z. absurd (not-higher i h m before (ltb-true _ _ z)))
           (λ z. omega (arith, ltb-false (at G′ i) (at G (old i)) q, ltb-false (at G (old i)) (at G′ i) z)))
+
+      group-new : (s i : ℕ) → s < n → new s ≡ i → i < k → at P′ i ≡ d → at G s ≡ at G′ i
+      group-new s i l e h m = one-group s i l e (member-old s i l e m) ∙ sym (same-group k i h h m)
 
       -- and the names after the round are the same.
       split-same : (s : ℕ) → s < n → at (split n P c G) s ≡ old (at (split k P′ d G′) (new s))
@@ -216,18 +230,20 @@ module _ {n k : ℕ} {new old : ℕ → ℕ} (numbers : NewNumbers n k new old) 
           let h = numbers .new-lt s l in
           test (eqb (at P′ (new s)) d)
           (λ q. let m = eqb-true _ _ q in
-          let ms : at P s ≡ c = mirror .same s l ∙ ap old m in
-          split-in n P right c hc oc G s l ms
-          ∙ least-old numbers (λ t. eqb (at P t) c && eqb (at G t) (at G s)) (λ i. eqb (at P′ i) d && eqb (at G′ i) (at G′ (new s)))
+          let g = group-new s (new s) l refl h m in
+          let low = picked k P′ right′ d hd od G′ (new s) h m .low in
+          split-in n P right c hc oc G s l (member-old s (new s) l refl m)
+          ∙ least-old numbers (λ t. eqb (at P t) c && eqb (at G t) (at G s))
+          (λ i. eqb (at P′ i) d && eqb (at G′ i) (at G′ (new s)))
           (λ i hi y. let v = same² (at P′ i) d (at G′ i) (at G′ (new s)) y in
-          and-intro (eq-eqb _ _ (member-old i hi (v .0)))
-          (eq-eqb _ _ (sym (same-group k i hi hi (v .0)) ∙ v .1 ∙ same-group k (new s) h h m ∙ sym (one-group s l ms))))
+          let o = numbers .old-lt i hi in
+          let e = numbers .new-old i hi in
+          and-intro (eq-eqb _ _ (member-old (old i) i o e (v .0)))
+          (eq-eqb _ _ (group-new (old i) i o e hi (v .0) ∙ v .1 ∙ sym g)))
           (λ t ht y. let v = same² (at P t) c (at G t) (at G s) y in
-          let hi = numbers .new-lt t ht in
           let mt = member-new t ht (v .0) in
-          and-intro (eq-eqb _ _ mt)
-          (eq-eqb _ _ (same-group k (new t) hi hi mt ∙ sym (one-group t ht (v .0)) ∙ v .1 ∙ one-group s l ms ∙ sym (same-group k (new s) h h m))))
-          (omega (arith, h, picked k P′ right′ d hd od G′ (new s) h m .low))
+          and-intro (eq-eqb _ _ mt) (eq-eqb _ _ (sym (group-new t (new t) ht refl (numbers .new-lt t ht) mt) ∙ v .1 ∙ g)))
+          (omega arith)
           ∙ ap old (sym (split-in k P′ right′ d hd od G′ (new s) h m)))
           (λ q. let ne = eqb-false _ _ q in
           split-out n P right c hc oc G s l (λ m. ne (member-new s l m)) ∙ mirror .same s l

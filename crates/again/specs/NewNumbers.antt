@@ -1,7 +1,7 @@
 -- States that become fewer: their new numbers, and searches over the states and over the new numbers. Assumes nothing.
 use Prim.Native.Nat.{ℕ, _≤_, _<_}
 use mathlib.Core.Path.{_≡_, sym, ap, _∙_}
-use mathlib.Core.Bool.{Bool, true, false}
+use mathlib.Core.Bool.{Bool, true}
 use native.Mathlib.Omega.{arith}
 use lib.Dec.{eqb}
 use borrow.Author.Tests.{eqb-true, eqb-false}
@@ -31,10 +31,12 @@ module _ {n k : ℕ} {new old : ℕ → ℕ} (numbers : NewNumbers n k new old) 
       (down : (s : ℕ) → s < n → p s ≡ true → q (new s) ≡ true) where
     pub least-old : least q k < k → least p n ≡ old (least q k)
     least-old h =
-        let o = numbers .old-lt (least q k) h in
-        least-is p n (old (least q k)) o (up (least q k) h (least-ok q k h)) (λ s l. test (p s)
+        let i = least q k in
+        let o = numbers .old-lt i h in
+        least-is p n (old i) o (up i h (least-ok q k h)) (λ s l. test (p s)
         (λ e. let w : s < n = omega arith in
-        absurd (omega (arith, old-mono (least q k) (new s) (least-le q k (new s) (down s w e)) (numbers .new-lt s w), numbers .old-new s w)))
+        let most = old-mono i (new s) (least-le q k (new s) (down s w e)) (numbers .new-lt s w) in
+        absurd (omega (arith, numbers .old-new s w)))
         (λ e. e))
 
     pub least-neither : k ≤ least q k → n ≤ least p n
