@@ -18,10 +18,10 @@
 //! `cargo build --release --offline` builds `reduce`, `shrink` and `trace` under target/release, twins of the proved
 //! programs in target/bin above: a station runs both and compares what they print.
 //!
-//! `cargo test --release --offline` compares them, once answers, trace, reduce and shrink are built in target/bin. The
-//! environment variable SEED makes a run again. `soak` compares for as long as one likes, and `soak again BATCH` compares
-//! what a failing run has saved. `cases answer < BATCH` prints the second program's outcomes of a batch, and `cases rounds
-//! < FILE` the rounds of a reduction.
+//! `cargo test --release --offline` compares them, once answers, trace, reduce and shrink are built in target/bin. Each
+//! random test prints its seed, and the environment variable SEED, one for all of them, makes a run again. `soak` compares
+//! for as long as one likes, and `soak again BATCH` compares what a failing run has saved. `cases answer < BATCH` prints the
+//! second program's outcomes of a batch, and `cases rounds < FILE` the rounds of a reduction.
 
 pub mod bits;
 pub mod call;

@@ -1,17 +1,43 @@
 //! Random numbers of which a whole run follows from one seed.
 
 use std::env;
+use std::io::{self, Write};
+use std::thread;
 use std::time::{SystemTime, UNIX_EPOCH};
 
 /// From the environment variable SEED, to make a run again, or from the clock.
-pub fn seed() -> u64 {
-    match env::var("SEED") {
-        Ok(text) => text.trim().parse().expect("SEED is not a number"),
-        Err(_) => SystemTime::now()
+pub fn unprinted_seed() -> u64 {
+    set().unwrap_or_else(|| {
+        SystemTime::now()
             .duration_since(UNIX_EPOCH)
             .expect("a clock after 1970")
-            .as_nanos() as u64,
-    }
+            .as_nanos() as u64
+    })
+}
+
+fn set() -> Option<u64> {
+    let text = env::var_os("SEED")?.into_string().ok();
+    let number = text.and_then(|text| text.trim().parse().ok());
+    Some(number.expect("SEED is not a number"))
+}
+
+/// The same for a test, and printed.
+pub fn seed() -> u64 {
+    printed(unprinted_seed())
+}
+
+/// For a test that has its own where SEED is not set.
+pub fn seed_or(own: u64) -> u64 {
+    printed(set().unwrap_or(own))
+}
+
+/// A test that fails shows what it printed. One that passes does not, so the seed is written past that as well.
+fn printed(seed: u64) -> u64 {
+    println!("SEED={seed}");
+    let test = thread::current();
+    let line = format!("SEED={seed} in {}\n", test.name().unwrap_or("a test"));
+    let _ = io::stderr().write_all(line.as_bytes());
+    seed
 }
 
 /// SplitMix64.

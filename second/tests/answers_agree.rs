@@ -56,7 +56,6 @@ fn is_full_size(file: &[u8]) -> bool {
 #[test]
 fn answers_agree() {
     let seed = seed();
-    println!("SEED={seed}");
     let mut random = Random::new(seed);
     let mut tally = Tally::default();
     for nth in 0..BATCHES {

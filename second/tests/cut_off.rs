@@ -6,7 +6,7 @@ use common::{at_once, program, run, whole, Ran};
 use second::case::Case;
 use second::frame::{answer_batch, write_batch};
 use second::make::filters::largest;
-use second::random::Random;
+use second::random::{seed_or, Random};
 use second::rides::{A, K, K_COLOURS, K_EDGES, K_OBSERVATIONS};
 use second::{file, stored};
 
@@ -68,7 +68,7 @@ fn fewer_cases_than_announced() {
 
 #[test]
 fn cut_inside_long_strings() {
-    let mut random = Random::new(1);
+    let mut random = Random::new(seed_or(1));
     let file = file::write(&largest(&mut random));
     let mut cases = a_few();
     cases.push(Case::unpack(file, vec![0xee; 256], vec![0xee; 49_152]));

@@ -90,12 +90,13 @@ fn output(command: &str) -> String {
     let mut path = twins.expect("their folder").as_os_str().to_os_string();
     path.push(":");
     path.push(env::var_os("PATH").unwrap_or_default());
-    let output = Command::new("sh")
-        .args(["-c", command])
+    // Of a pipe every program's status counts.
+    let output = Command::new("bash")
+        .args(["-o", "pipefail", "-c", command])
         .current_dir(top())
         .env("PATH", path)
         .output()
-        .expect("sh can be started");
+        .expect("bash can be started");
     assert!(output.status.success(), "{command}: {}", output.status);
     assert!(output.stderr.is_empty(), "{command} writes an error");
     String::from_utf8(output.stdout).expect("a text")

@@ -11,16 +11,35 @@ use second::make::draft::Draft;
 use second::make::filters::shapes;
 use second::make::rooms::Room;
 use second::make::{files, lists, reduces, traces};
-use second::random::Random;
+use second::random::{seed_or, Random};
 use second::reduce::reduce;
 use std::collections::BTreeSet;
+use std::thread;
 
 const ROUNDS: u64 = 200;
 
-fn for_each_seed(what: impl Fn(&mut Random)) {
-    for seed in 0..ROUNDS {
-        what(&mut Random::new(seed));
+/// Says of which seed a test fails.
+struct Tried(u64);
+
+impl Drop for Tried {
+    fn drop(&mut self) {
+        if thread::panicking() {
+            println!("failed with SEED={}", self.0);
+        }
     }
+}
+
+/// With so many seeds, the first of them 0 or what SEED says.
+fn for_seeds(count: u64, mut what: impl FnMut(&mut Random)) {
+    let first = seed_or(0);
+    for nth in 0..count {
+        let tried = Tried(first.wrapping_add(nth));
+        what(&mut Random::new(tried.0));
+    }
+}
+
+fn for_each_seed(what: impl FnMut(&mut Random)) {
+    for_seeds(ROUNDS, what);
 }
 
 fn number(case: &Case) -> u8 {
@@ -226,13 +245,13 @@ fn a_faulty_file_decides_before_the_trace() {
 
 #[test]
 fn many_observations_are_12_from_65_536_on() {
-    for seed in 0..3 {
-        for case in traces::many_observations(&mut Random::new(seed)) {
+    for_seeds(3, |random| {
+        for case in traces::many_observations(random) {
             let enough_room = case.c.len() > case.b.len();
             let takes = case.b.len() <= 65_535 && enough_room;
             assert_eq!(told(&case) == NO_ROOM, !takes);
         }
-    }
+    });
 }
 
 #[test]
@@ -280,14 +299,14 @@ fn chains_take_two_rounds_fewer_than_they_have_states() {
 
 #[test]
 fn chains_of_many_rounds_are_of_full_size() {
-    for seed in 0..10 {
-        for case in reduces::many_rounds(&mut Random::new(seed)) {
+    for_seeds(10, |random| {
+        for case in reduces::many_rounds(random) {
             let header = Header::of(&case.a).expect("a header");
             let answer = case.outcome().answer;
             assert_eq!((answer.number, header.n, header.m), (0, 256, 64));
             assert!((200..=254).contains(&answer.counts[2]));
         }
-    }
+    });
 }
 
 #[test]
@@ -347,8 +366,8 @@ fn filters_are_merged_and_parted_in_each_family() {
         let mut cases = 0;
         let mut merged = 0;
         let mut parted = 0;
-        for seed in 0..ROUNDS {
-            for case in make(&mut Random::new(seed)) {
+        for_each_seed(|random| {
+            for case in make(random) {
                 let answer = case.outcome().answer;
                 assert_eq!(answer.number, 0);
                 let n = Header::of(&case.a).expect("a header").n;
@@ -356,7 +375,7 @@ fn filters_are_merged_and_parted_in_each_family() {
                 merged += u32::from(answer.counts[0] < n);
                 parted += u32::from(answer.counts[2] > 0);
             }
-        }
+        });
         assert!(merged > cases / 10, "{merged} of {cases} are merged");
         assert!(parted > cases / 10, "{parted} of {cases} are parted");
     }
@@ -364,7 +383,7 @@ fn filters_are_merged_and_parted_in_each_family() {
 
 #[test]
 fn a_few_batches_lead_to_every_kind_of_outcome() {
-    let mut random = Random::new(1);
+    let mut random = Random::new(seed_or(1));
     let mut seen = BTreeSet::new();
     for _ in 0..3 {
         for made in second::make::batch(&mut random) {
@@ -378,8 +397,9 @@ fn a_few_batches_lead_to_every_kind_of_outcome() {
 
 #[test]
 fn the_same_seed_makes_the_same_batch() {
-    let one = second::make::batch(&mut Random::new(7));
-    let other = second::make::batch(&mut Random::new(7));
+    let seed = seed_or(7);
+    let one = second::make::batch(&mut Random::new(seed));
+    let other = second::make::batch(&mut Random::new(seed));
     assert_eq!(one.len(), other.len());
     assert!(one
         .iter()

@@ -125,7 +125,6 @@ fn files_of_all_families(
 #[test]
 fn files_agree() {
     let seed = seed();
-    println!("SEED={seed}");
     let mut random = Random::new(seed);
     let files = files_of_all_families(&mut random, 30, 8);
     println!("{} files", files.len());
@@ -167,7 +166,6 @@ fn shrunk(what: &str, file: &[u8]) -> Vec<u8> {
 #[test]
 fn shrunk_again() {
     let seed = seed();
-    println!("SEED={seed}");
     let mut random = Random::new(seed);
     let mut changed = 0;
     for (family, file) in files_of_all_families(&mut random, 4, 4) {

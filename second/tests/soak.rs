@@ -5,6 +5,7 @@ use second::compare::{Batch, Difference};
 use second::frame::{read_batch, write_outcomes};
 use second::make::Made;
 use second::proved::Ran;
+use second::random::{seed, seed_or};
 use second::stored;
 use std::fs;
 use std::os::unix::process::ExitStatusExt;
@@ -109,11 +110,12 @@ fn ended(mut command: Command) -> (Option<i32>, String) {
 
 #[test]
 fn the_proved_program_agrees() {
+    let seed = seed_or(7);
     let mut command = soak(&["0"]);
-    command.env("SEED", "7");
+    command.env("SEED", seed.to_string());
     let (status, text) = ended(command);
     assert_eq!(status, Some(0), "{text}");
-    assert!(text.starts_with("SEED=7\n"), "{text}");
+    assert!(text.starts_with(&format!("SEED={seed}\n")), "{text}");
     assert!(text.ends_with(" cases: no difference\n"), "{text}");
     assert!(text.contains(" 1 batches, "), "{text}");
 }
@@ -123,6 +125,7 @@ fn the_proved_program_agrees() {
 fn another_program_differs_and_differs_again() {
     let other = Path::new(env!("CARGO_MANIFEST_DIR")).join("../target/bin/shrink");
     let mut command = soak(&["0"]);
+    command.env("SEED", seed().to_string());
     command.env("ANSWERS", other);
     let (status, text) = ended(command);
     assert_eq!(status, Some(1), "{text}");

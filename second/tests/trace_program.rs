@@ -89,7 +89,6 @@ fn pairs_agree() {
     const OF_EACH_FILE_FAMILY: usize = 14;
     const OF_EACH_TRACE_FAMILY: usize = 34;
     let seed = seed();
-    println!("SEED={seed}");
     let mut random = Random::new(seed);
     let mut pairs: Vec<(&str, Vec<u8>, Vec<u8>)> = Vec::new();
     for family in files::FAMILIES {

@@ -8,7 +8,7 @@ use native.Mathlib.Omega.{arith}
 use lib.Dec.{eqb, ltb}
 use borrow.Author.Tests.{eqb-true, eqb-false, eq-eqb, ltb-true, ltb-false}
 use Rattle.meaning.specs.Search.{least, count, tab, at}
-use Rattle.meaning.specs.Cases.{test, and-intro, and-right}
+use Rattle.meaning.specs.Cases.{cases-of, and-intro, and-right}
 use Rattle.meaning.specs.SearchLaws.{count-step, tab-cong}
 use Rattle.meaning.specs.Filter.{Filter, states, inOrder}
 use Rattle.meaning.specs.Trace.{edge, colour}
@@ -110,7 +110,7 @@ module _ (F : Filter) (few : states F ≤ 256) (ok : inOrder F ≡ true) where
     rising = λ i j h l.
         let a = ranked i (omega arith) in
         let b = ranked j l in
-        test (ltb (old i) (old j)) (λ q. ltb-true _ _ q) (λ q. absurd (test (eqb (old j) (old i))
+        cases-of (ltb (old i) (old j)) (λ q. ltb-true _ _ q) (λ q. absurd (cases-of (eqb (old j) (old i))
         (λ e. omega (arith, ap (count (named ends)) (eqb-true (old j) (old i) e)))
         (λ e. let w : old j < old i = omega (arith, ltb-false (old i) (old j) q, eqb-false (old j) (old i) e) in
         omega (arith, count-step (named ends) (old j) (old i) w (eq-eqb (at ends (old j)) (old j) (numbered j l .2))))));
@@ -241,7 +241,7 @@ module _ (F : Filter) (few : states F ≤ 256) (ok : inOrder F ≡ true) where
       → Together n new old (run f T Q .names) → Alike (run f T Q) (run g T′ Q′)
   run-alike zero g Q Q′ a h h′ together = absurd (omega (arith, classes-max T fair₀ (Q .names)))
   run-alike (suc f) zero Q Q′ a h h′ together = absurd (omega (arith, classes-max T′ fair′ (Q′ .names)))
-  run-alike (suc f) (suc g) Q Q′ a h h′ together = test (ltb (chosen T′ (Q′ .names)) k)
+  run-alike (suc f) (suc g) Q Q′ a h h′ together = cases-of (ltb (chosen T′ (Q′ .names)) k)
       (λ q. let l = ltb-true _ _ q in
       let hc : chosen T (Q .names) < n = omega (arith, taken-old Q Q′ a l, numbers .old-lt (chosen T′ (Q′ .names)) l) in
       let on = run-on T Q hc f in

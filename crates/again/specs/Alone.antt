@@ -10,7 +10,7 @@ use lib.Dec.{eqb}
 use lib.ListN.{length}
 use borrow.Author.Tests.{eqb-true, eq-eqb, ne-eqb}
 use Rattle.meaning.specs.Search.{least, count, tab, at}
-use Rattle.meaning.specs.Cases.{test, no-both, and-intro, and-left, and-right}
+use Rattle.meaning.specs.Cases.{cases-of, no-both, and-intro, and-left, and-right}
 use Rattle.meaning.specs.SearchLaws.{least-is, least-empty, tab-cong}
 use Rattle.meaning.specs.Filter.{Edge, Filter, states}
 use Rattle.meaning.specs.Trace.{edge, colour, target}
@@ -62,10 +62,10 @@ module _ (F : Filter) (fits : Fits F) (P : List ℕ) (alone : Alone (states F) P
 
   -- the edge of a state that is a class is the state's
   edge-alone : (s y : ℕ) → s < n → edge F (least (bears s y) n) y ≡ edge F s y
-  edge-alone s y h = test (has (edge F s y))
+  edge-alone s y h = cases-of (has (edge F s y))
       (λ q. ap (λ (t : ℕ). edge F t y) (least-is (bears s y) n s h (and-intro (eq-eqb (at P s) s (alone s h)) q)
       (λ t l. rw (ne-eqb (at P t) s (λ e. omega (arith, alone t (omega arith)))))))
-      (λ q. let nobody : n ≤ least (bears s y) n = least-empty (bears s y) n (λ t l. test (bears s y t)
+      (λ q. let nobody : n ≤ least (bears s y) n = least-empty (bears s y) n (λ t l. cases-of (bears s y t)
       (λ b. let e = sym (alone t l) ∙ eqb-true _ _ (and-left (eqb (at P t) s) (has (edge F t y)) b) in
       no-both (and-right (eqb (at P t) s) (has (edge F t y)) b) (ap (λ (u : ℕ). has (edge F u y)) e ∙ q))
       (λ b. b)) in

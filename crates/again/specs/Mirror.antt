@@ -8,7 +8,7 @@ use native.Mathlib.Omega.{arith}
 use lib.Dec.{eqb, ltb}
 use borrow.Author.Tests.{eqb-true, eqb-false, eq-eqb, ltb-true, ltb-false, not-false}
 use Rattle.meaning.specs.Search.{any, least, at}
-use Rattle.meaning.specs.Cases.{test, same², no-both, and-intro, and-left, and-right}
+use Rattle.meaning.specs.Cases.{cases-of, same², no-both, and-intro, and-left, and-right}
 use Rattle.meaning.specs.SearchLaws.{any-elim, least-below}
 use Rattle.meaning.specs.Classes.{parted, first, free, groups, split}
 use Rattle.meaning.specs.ClassesLaws.{Named, pair, unparted, name-own}
@@ -51,12 +51,12 @@ pub record Matched (n k : ℕ) (new : ℕ → ℕ) (clash clash′ : ℕ → ℕ
 module _ (clash : ℕ → ℕ → Bool) (turn : (s t : ℕ) → clash s t ≡ true → clash t s ≡ true)
     (n s t : ℕ) (hs : s < n) (ht : t < n) (ne : s ≡ t → ⊥) (x : clash s t ≡ true) where
   parted-either : (P : List ℕ) (c : ℕ) → at P s ≡ c → at P t ≡ c → parted n clash P c ≡ true
-  parted-either P c es et = test (parted n clash P c) (λ q. q) (λ q. test (ltb s t)
+  parted-either P c es et = cases-of (parted n clash P c) (λ q. q) (λ q. cases-of (ltb s t)
       (λ l. no-both x (unparted n clash P c q s t (ltb-true _ _ l) ht es et))
       (λ l. no-both (turn s t x) (unparted n clash P c q t s (omega (arith, ltb-false s t l)) hs et es)))
 
   groups-either : (mem : ℕ → Bool) → mem s ≡ true → mem t ≡ true → at (groups mem clash n) s ≡ at (groups mem clash n) t → ⊥
-  groups-either mem ms mt e = test (ltb s t)
+  groups-either mem ms mt e = cases-of (ltb s t)
       (λ l. groups-apart mem clash n s t (ltb-true _ _ l) ht ms mt x e)
       (λ l. groups-apart mem clash n t s (omega (arith, ltb-false s t l)) hs mt ms (turn s t x) (sym e))
 
@@ -66,7 +66,7 @@ record Taken (mem : ℕ → Bool) (clash : ℕ → ℕ → Bool) (G : List ℕ) 
   earlier : by < t
   member : mem by ≡ true
   clashes : clash by t ≡ true
-  group : at G by ≡ g
+  has-group : at G by ≡ g
 
 -- each group number below that of a member is taken
 taken : (mem : ℕ → Bool) (clash : ℕ → ℕ → Bool) (n t g : ℕ) → t < n → mem t ≡ true → g < at (groups mem clash n) t
@@ -85,7 +85,7 @@ taken mem clash n t g h e l =
       earlier = r .1;
       member = and-left (mem s) (clash s t && eqb (at G s) g) (r .2);
       clashes = and-left (clash s t) (eqb (at G s) g) x;
-      group = groups-at mem clash n s (omega (arith, r .1)) ∙ sym (groups-at mem clash t s (r .1))
+      has-group = groups-at mem clash n s (omega (arith, r .1)) ∙ sym (groups-at mem clash t s (r .1))
           ∙ eqb-true (at G s) g (and-right (clash s t) (eqb (at G s) g) x);
     }
 
@@ -161,7 +161,7 @@ module _ {n k : ℕ} {new old : ℕ → ℕ} (numbers : NewNumbers n k new old) 
     member-new s l m = sym (name-new s l) ∙ ap new m ∙ numbers .new-old d hd
 
     split-group : (s : ℕ) → s < n → at P s ≡ c → at G (at (split n P c G) s) ≡ at G s
-    split-group s l m = ap (at G) (split-in n P right c hc oc G s l m) ∙ picked n P right c hc oc G s l m .group
+    split-group s l m = ap (at G) (split-in n P right c hc oc G s l m) ∙ picked n P right c hc oc G s l m .same-group
 
     -- Where the round keeps the states of one new number together,
     module _ (together : Together n new old (split n P c G)) where
@@ -184,7 +184,7 @@ module _ {n k : ℕ} {new old : ℕ → ℕ} (numbers : NewNumbers n k new old) 
             let hs : s < n = omega (arith, t .earlier) in
             let ms = eqb-true (at P s) c (t .member) in
             let mj = member-new s hs ms in
-            let ji : j < i = test (ltb j i) (λ q. ltb-true _ _ q) (λ q. absurd (omega (
+            let ji : j < i = cases-of (ltb j i) (λ q. ltb-true _ _ q) (λ q. absurd (omega (
               arith,
               old-mono numbers i j (ltb-false _ _ q) (numbers .new-lt s hs),
               numbers .old-new s hs,
@@ -193,7 +193,7 @@ module _ {n k : ℕ} {new old : ℕ → ℕ} (numbers : NewNumbers n k new old) 
             let x : clash′ j i ≡ true = subst (λ (a : ℕ). clash′ j a ≡ true) (numbers .new-old i h)
             (matched .down s (old i) hs hi (t .clashes)) in
             groups-apart mem′ clash′ k j i ji h (eq-eqb _ _ mj) (eq-eqb _ _ m) x
-            (before j ji mj ∙ sym (one-group s j hs refl ms) ∙ t .group)
+            (before j ji mj ∙ sym (one-group s j hs refl ms) ∙ t .has-group)
 
         not-higher : at G (old i) < at G′ i → ⊥
         not-higher l =
@@ -206,7 +206,7 @@ module _ {n k : ℕ} {new old : ℕ → ℕ} (numbers : NewNumbers n k new old) 
             let mb = member-old (x .other) i (x .other-lt) (x .other-new) m in
             groups-either clash (matched .turn) n (x .one) (x .other) (x .one-lt) (x .other-lt)
             (λ o. omega (arith, ji, x .one-new, x .other-new, ap new o)) (x .clashes) mem (eq-eqb _ _ ma) (eq-eqb _ _ mb)
-            (one-group (x .one) j (x .one-lt) (x .one-new) ma ∙ sym (before j ji mj) ∙ t .group
+            (one-group (x .one) j (x .one-lt) (x .one-new) ma ∙ sym (before j ji mj) ∙ t .has-group
             ∙ sym (one-group (x .other) i (x .other-lt) (x .other-new) mb))
 
       -- which is that of the new number,
@@ -215,9 +215,9 @@ module _ {n k : ℕ} {new old : ℕ → ℕ} (numbers : NewNumbers n k new old) 
       same-group (suc b) i l h m =
           let before : (j : ℕ) → j < i → at P′ j ≡ d → at G′ j ≡ at G (old j) =
           λ j ji. same-group b j (omega arith) (omega arith) in
-          test (ltb (at G′ i) (at G (old i)))
+          cases-of (ltb (at G′ i) (at G (old i)))
           (λ q. absurd (not-lower i h m before (ltb-true _ _ q)))
-          (λ q. test (ltb (at G (old i)) (at G′ i))
+          (λ q. cases-of (ltb (at G (old i)) (at G′ i))
           (λ z. absurd (not-higher i h m before (ltb-true _ _ z)))
           (λ z. omega (arith, ltb-false (at G′ i) (at G (old i)) q, ltb-false (at G (old i)) (at G′ i) z)))
 
@@ -228,7 +228,7 @@ module _ {n k : ℕ} {new old : ℕ → ℕ} (numbers : NewNumbers n k new old) 
       split-same : (s : ℕ) → s < n → at (split n P c G) s ≡ old (at (split k P′ d G′) (new s))
       split-same s l =
           let h = numbers .new-lt s l in
-          test (eqb (at P′ (new s)) d)
+          cases-of (eqb (at P′ (new s)) d)
           (λ q. let m = eqb-true _ _ q in
           let g = group-new s (new s) l refl h m in
           let low = picked k P′ right′ d hd od G′ (new s) h m .low in

@@ -6,7 +6,7 @@ use native.Mathlib.Omega.{arith}
 use lib.Dec.{eqb}
 use borrow.Author.Tests.{eqb-true, eqb-false}
 use Rattle.meaning.specs.Search.{least}
-use Rattle.meaning.specs.Cases.{test, no-both}
+use Rattle.meaning.specs.Cases.{cases-of, no-both}
 use Rattle.meaning.specs.SearchLaws.{least-le, least-ok, least-none, least-is, least-empty}
 
 -- n states become k: `new s` is the new number of s, `old i` the smallest state with the new number i, and these ascend.
@@ -22,7 +22,7 @@ module _ {n k : ℕ} {new old : ℕ → ℕ} (numbers : NewNumbers n k new old) 
   old-one i j hi hj e = sym (numbers .new-old i hi) ∙ ap new e ∙ numbers .new-old j hj
 
   pub old-mono : (i j : ℕ) → i ≤ j → j < k → old i ≤ old j
-  old-mono i j h l = test (eqb i j)
+  old-mono i j h l = cases-of (eqb i j)
       (λ q. omega (arith, ap old (eqb-true i j q)))
       (λ q. omega (arith, numbers .rising i j (omega (arith, eqb-false i j q)) l))
 
@@ -33,13 +33,13 @@ module _ {n k : ℕ} {new old : ℕ → ℕ} (numbers : NewNumbers n k new old) 
     least-old h =
         let i = least q k in
         let o = numbers .old-lt i h in
-        least-is p n (old i) o (up i h (least-ok q k h)) (λ s l. test (p s)
+        least-is p n (old i) o (up i h (least-ok q k h)) (λ s l. cases-of (p s)
         (λ e. let w : s < n = omega arith in
         let most = old-mono i (new s) (least-le q k (new s) (down s w e)) (numbers .new-lt s w) in
         absurd (omega (arith, numbers .old-new s w)))
         (λ e. e))
 
     pub least-neither : k ≤ least q k → n ≤ least p n
-    least-neither h = least-empty p n (λ s l. test (p s)
+    least-neither h = least-empty p n (λ s l. cases-of (p s)
         (λ e. no-both (down s l e) (least-none q k (new s) h (numbers .new-lt s l)))
         (λ e. e))

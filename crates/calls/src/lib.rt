@@ -1,4 +1,5 @@
-// The calls of the cases of a batch, each with its answer as it is written. Of what a call promises nothing is needed here.
+// The calls of the cases of a batch, each with its answer as it is written: number, place and counts are those of its outcome. Of what
+// a call promises nothing is needed here.
 //
 // 1, check: a is the file. 2, unpack: a is the file, b and c are the rooms for colours and edges. 3, pack: a and b are the
 // colours and the edges, c is the room, the two numbers are m and the start. 4, trace: a is the file, b the observations, c
@@ -13,10 +14,22 @@ use reduction::Reduced;
 use refusals::Refusal;
 use tracing::Traced;
 use unpacking::Unpacked;
+ghost use mathlib.Core.Path.{_≡_};
+ghost use mathlib.Core.List.{[], _∷_};
 ghost use Prim.Native.Nat.{_≤_};
 ghost use lib.ListN.{length};
+ghost use Rattle.refusals.specs.Refusals.{numberOf, refusalOutcome};
+ghost use Rattle.files.specs.Files.{readingOutcome};
+ghost use Rattle.checking.specs.Promise.{checkedOutcome};
+ghost use Rattle.unpacking.specs.Promise.{unpackedOutcome};
+ghost use Rattle.packing.specs.Promise.{packedOutcome};
+ghost use Rattle.tracing.specs.Answers.{tracedOutcome};
+ghost use Rattle.reduction.specs.Answers.{reducedOutcome};
+ghost use Rattle.calls.specs.Written.{Written};
 
-fn of_refusal(why: Refusal) -> Answer {
+fn of_refusal(why: Refusal) -> Answer
+    ensures { λ r. ⌜ (r .number ≡ numberOf (why .kind)) × (r .place ≡ why .place) × (r .counts ≡ 0 ∷ 0 ∷ 0 ∷ 0 ∷ []) ⌝ }
+{
     let kind = why.kind;
     Answer {
         number: refusals::number(kind),
@@ -25,7 +38,9 @@ fn of_refusal(why: Refusal) -> Answer {
     }
 }
 
-fn of_reading(r: Reading) -> Answer {
+fn of_reading(r: Reading) -> Answer
+    ensures { λ a. ⌜ Written 4 (readingOutcome r) (a .number) (a .place) (a .counts) ⌝ }
+{
     Answer {
         number: 0,
         place: 0,
@@ -38,21 +53,27 @@ fn of_reading(r: Reading) -> Answer {
     }
 }
 
-fn checked(answer: Checked) -> Answer {
+fn checked(answer: Checked) -> Answer
+    ensures { λ r. ⌜ Written 4 (checkedOutcome answer) (r .number) (r .place) (r .counts) ⌝ }
+{
     match answer {
         Checked::Accepted(r) => of_reading(r),
         Checked::Refused(why) => of_refusal(why),
     }
 }
 
-fn unpacked(answer: Unpacked) -> Answer {
+fn unpacked(answer: Unpacked) -> Answer
+    ensures { λ r. ⌜ Written 4 (unpackedOutcome answer) (r .number) (r .place) (r .counts) ⌝ }
+{
     match answer {
         Unpacked::Accepted(r) => of_reading(r),
         Unpacked::Refused(why) => of_refusal(why),
     }
 }
 
-fn packed(answer: Packed) -> Answer {
+fn packed(answer: Packed) -> Answer
+    ensures { λ r. ⌜ Written 1 (packedOutcome answer) (r .number) (r .place) (r .counts) ⌝ }
+{
     match answer {
         Packed::Accepted(n) => Answer {
             number: 0,
@@ -63,7 +84,9 @@ fn packed(answer: Packed) -> Answer {
     }
 }
 
-fn traced(answer: Traced) -> Answer {
+fn traced(answer: Traced) -> Answer
+    ensures { λ r. ⌜ Written 2 (tracedOutcome answer) (r .number) (r .place) (r .counts) ⌝ }
+{
     match answer {
         Traced::All => Answer {
             number: 0,
@@ -79,7 +102,9 @@ fn traced(answer: Traced) -> Answer {
     }
 }
 
-fn reduced(answer: Reduced) -> Answer {
+fn reduced(answer: Reduced) -> Answer
+    ensures { λ r. ⌜ Written 4 (reducedOutcome answer) (r .number) (r .place) (r .counts) ⌝ }
+{
     match answer {
         Reduced::Accepted(c) => Answer {
             number: 0,

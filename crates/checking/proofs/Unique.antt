@@ -6,7 +6,7 @@ use contract.Lifetimes.{Lfts}
 use borrow.Fn.World.{ArgsD, ResD}
 use denote.Triple.Clauses.{AtExit}
 use borrow.Fn.Kinds.{endedOf}
-use Rattle.meaning.specs.Cases.{clash}
+use Rattle.meaning.specs.Cases.{impossible}
 use Rattle.refusals.proofs.Laws.{refusal-one}
 use Rattle.layout.specs.declared.Reading.{Reading}
 use Rattle.files.specs.Files.{readingOutcome}
@@ -31,8 +31,8 @@ reading-one a b e =
 pub checked-one : (a b : Checked) → checkedOutcome a ≡ checkedOutcome b → a ≡ b
 checked-one (checked.Accepted r) (checked.Accepted s) e = ap checked.Accepted (reading-one r s e)
 checked-one (checked.Refused r) (checked.Refused s) e = ap checked.Refused (refusal-one r s e)
-checked-one (checked.Accepted r) (checked.Refused s) e = clash cc
-checked-one (checked.Refused r) (checked.Accepted s) e = clash cc
+checked-one (checked.Accepted r) (checked.Refused s) e = impossible cc
+checked-one (checked.Refused r) (checked.Accepted s) e = impossible cc
 
 pub check-contract-one : (κs : Lfts 1) (a : ArgsD check.signature κs) (r₁ r₂ : ResD check.signature κs)
     (s₁ s₂ : AtExit (endedOf 1 check-kinds.ps check-kinds.r) κs) →

@@ -8,7 +8,7 @@ use native.Mathlib.Decide.{decLt, ℕ-discrete}
 use native.Mathlib.Omega.{arith}
 use lib.Dec.{eqb}
 use borrow.Author.Tests.{eq-eqb, ne-eqb}
-use Rattle.meaning.specs.Cases.{test, no-both, and-left, and-right}
+use Rattle.meaning.specs.Cases.{cases-of, no-both, and-left, and-right}
 use Rattle.meaning.specs.Search.{any, at}
 use Rattle.meaning.specs.SearchLaws.{any-intro, any-elim, any-none}
 use Rattle.meaning.specs.Reduced.{apart, conflict}
@@ -25,7 +25,7 @@ and-false true = refl
 and-false false = refl
 
 pub any-empty : (p : ℕ → Bool) (n : ℕ) → ((i : ℕ) → i < n → p i ≡ false) → any p n ≡ false
-any-empty p n h = test (any p n) (λ q. let w = any-elim p n q in no-both (w .2) (h (w .0) (w .1))) (λ q. q)
+any-empty p n h = cases-of (any p n) (λ q. let w = any-elim p n q in no-both (w .2) (h (w .0) (w .1))) (λ q. q)
 
 -- ---- one label
 
@@ -43,7 +43,7 @@ module _ (T : Table) (P : List ℕ) (a b : ℕ) where
   unshared : (y : ℕ) → holds (at (T .labels) a) y && holds (at (T .labels) b) y ≡ false
       → apart P (look T a y) (look T b y) ≡ false
   unfolding apart
-  unshared y e = test (holds (at (T .labels) a) y)
+  unshared y e = cases-of (holds (at (T .labels) a) y)
       (λ q. ap (apart P (look T a y)) (look-none T b y (sym (rw q) ∙ e)) ∙ apart-none P (look T a y))
       (λ q. rw (look-none T a y q))
 
@@ -90,7 +90,7 @@ module _ (T : Table) (P : List ℕ) (a b : ℕ) where
         go : (y : ℕ) → holds rest′ y ≡ false → Dec (k ≡ y) → apart P (look T a y) (look T b y) ≡ false
         go y q (yes e) = rw (← e) (here ∙ rw (eq-eqb _ _ same))
         go y q (no e) = calm .tried y
-            (test (holds rest y) (λ p. no-both {b = holds rest′ y} (is y ∙ rw (p, ne-eqb k y e)) q) (λ p. p))
+            (cases-of (holds rest y) (λ p. no-both {b = holds rest′ y} (is y ∙ rw (p, ne-eqb k y e)) q) (λ p. p))
 
     pub calm-broken : (at P u ≡ at P v → ⊥) → clash T P a b ≡ true
     unfolding conflict
@@ -105,7 +105,7 @@ module _ (T : Table) (P : List ℕ) (a b : ℕ) where
 -- where no label of a table is m or more, the first m labels are enough
 pub clash-labels : (T : Table) (m : ℕ) → m ≤ 64 → ((s y t : ℕ) → look T s y ≡ some t → y < m) → clash T ≡ conflict (look T) m
 unfolding conflict
-clash-labels T m few below = fun-ext λ P. fun-ext λ a. fun-ext λ b. test (any (λ y. apart P (look T a y) (look T b y)) m)
+clash-labels T m few below = fun-ext λ P. fun-ext λ a. fun-ext λ b. cases-of (any (λ y. apart P (look T a y) (look T b y)) m)
     (λ q. let w = any-elim _ m q in any-intro _ 64 (w .0) (omega (arith, w .1)) (w .2) ∙ sym q)
     (λ q. any-empty _ 64 (λ y l. go P a b q y (decLt y m)) ∙ sym q)
   where

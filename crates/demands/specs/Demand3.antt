@@ -4,10 +4,10 @@
 -- contracts. Of any usable widths.
 -- Assumes nothing.
 use Prim.Native.Nat.{ℕ, _+_, _-_, _≤_, _<_}
-use mathlib.Core.Path.{_≡_, refl, sym, ap, ap₂, _∙_, subst}
-use mathlib.Core.Bool.{Bool, true, false, _||_}
+use mathlib.Core.Path.{_≡_, refl, sym, ap, _∙_, subst}
+use mathlib.Core.Bool.{true, false}
 use mathlib.Core.List.{List, [], _∷_}
-use mathlib.Core.Option.{Option, none, some}
+use mathlib.Core.Option.{none}
 use native.Mathlib.Nat.{le-trans}
 use native.Mathlib.Omega.{arith}
 use lib.Dec.{ltb}
@@ -15,7 +15,6 @@ use lib.ListN.{length, take, drop}
 use lib.Seq.{take-at}
 use borrow.Author.Tests.{le-ltb}
 use Rattle.bits.specs.Bits.{Bytes}
-use Rattle.meaning.specs.Cases.{clash}
 use Rattle.meaning.specs.Filter.{Filter, states, inOrder}
 use Rattle.meaning.specs.Trace.{shown, stops}
 use Rattle.meaning.specs.Reduced.{reduce, merged, reduced, distinct}
@@ -24,18 +23,19 @@ use Rattle.layout.specs.declared.Profile.{Profile}
 use Rattle.layout.specs.Code.{Usable}
 use Rattle.layout.specs.Layout.{lengthOf, written}
 use Rattle.layout.specs.Contents.{labelsIn, filterIn}
-use Rattle.refusals.specs.Refusals.{Outcome, accepted, refused, onward, firstOf, laid, roomAfter}
+use Rattle.refusals.specs.Refusals.{accepted, laid}
 use Rattle.files.specs.Files.{checkOf, numbersIn}
 use Rattle.layout.proofs.Bounds.{states-high}
-use Rattle.refusals.proofs.Laws.{first-accepted, promise-laid}
+use Rattle.refusals.proofs.Laws.{first-accepted, onward-accepted, promise-laid}
 use Rattle.files.specs.Tests.{Sound, check-sound, Writable, writable-in-order}
 use Rattle.files.specs.Written.{Holds, length-written, written-holds, length-filter, read-writable}
 use Rattle.tracing.specs.declared.Traced.{Traced}
 use Rattle.tracing.specs.declared.Traced.the-variants as traced
 use Rattle.tracing.specs.Answers.{rideOutcome}
 use Rattle.observed.specs.Observed.{firstOutside}
-use Rattle.tracing.specs.Tracing.{labelsThen, traceOf}
+use Rattle.tracing.specs.Tracing.{traceOf}
 use Rattle.tracing.specs.Promise.{TracePromise}
+use Rattle.tracing.proofs.Calls.{trace-accepted, ride-one, rode-few}
 use Rattle.tracing.proofs.Unique.{traced-one}
 use Rattle.folding.specs.declared.Counts.{Counts}
 use Rattle.reduction.specs.declared.Reduced.the-variants as answers
@@ -68,13 +68,13 @@ module _ (P : Profile) (usable : Usable P) (file : List ℕ) (bytes : Bytes file
   writable : Writable P F
   writable = read-writable P usable file sound
 
-  few : states F ≤ 256
+  pub few : states F ≤ 256
   few = rw (length-filter P file) (states-high P usable file)
 
-  ok : inOrder F ≡ true
+  pub ok : inOrder F ≡ true
   ok = writable-in-order P F writable
 
-  holds : Holds P (reducedFile P file) (reduced F)
+  pub holds : Holds P (reducedFile P file) (reduced F)
   holds = written-holds P usable (reduced F) (reduced-writable P usable F writable)
 
   -- the reduced file holds the reduced filter
@@ -105,65 +105,57 @@ module _ (P : Profile) (usable : Usable P) (file : List ℕ) (bytes : Bytes file
 
 -- ---- in the terms of the calls
 
--- a call that accepts was given a file that is accepted
-onward-accepted : (o next : Outcome) (vs : List ℕ) → onward o next ≡ accepted vs → (us : List ℕ) × (o ≡ accepted us) × (next ≡ accepted vs)
-onward-accepted (accepted us) next vs h = (us, refl, h)
-onward-accepted (refused k p) next vs h = clash cc
-
-labels-accepted : (o : Option ℕ) (next : Outcome) (vs : List ℕ) → labelsThen o next ≡ accepted vs → (o ≡ none) × (next ≡ accepted vs)
-labels-accepted none next vs h = (refl, h)
-labels-accepted (some i) next vs h = clash cc
-
-test-accepted : (b : Bool) (k : ℕ) (next : Outcome) (vs : List ℕ) → firstOf (record { number = k; given = b } ∷ []) next ≡ accepted vs → (b ≡ false) × (next ≡ accepted vs)
-test-accepted true k next vs h = clash cc
-test-accepted false k next vs h = (refl, h)
-
-ride-all : (o : Option ℕ) → rideOutcome o ≡ rideOutcome none → o ≡ none
-ride-all none h = refl
-ride-all (some i) h = clash cc
-
 -- What a trace that answers *traced* tells of the file.
 record AllTraced (P : Profile) (file ys room room′ : List ℕ) : Type 0 where
   checks : (us : List ℕ) × (checkOf P file ≡ accepted us)
-  few-enough : (ltb 65535 (length ys) || ltb (length room) (length ys + 1)) ≡ false
+  few-enough : length ys ≤ 65535
   labels-in : firstOutside (labelsIn P file) ys ≡ none
   traces : Traces P file ys
   shows : room′ ≡ laid (Shows P file ys) room
 
 all-traced : (P : Profile) (file ys room room′ : List ℕ) → TracePromise P file ys room traced.All room′ → AllTraced P file ys room room′
-unfolding traceOf
 all-traced P file ys room room′ p =
-    let a = onward-accepted (checkOf P file) _ _ (sym (p .answer)) in
-    let b = test-accepted (ltb 65535 (length ys) || ltb (length room) (length ys + 1)) 12 _ _ (a .2) in
-    let c = labels-accepted (firstOutside (labelsIn P file) ys) _ _ (b .1) in
+    let rode = trace-accepted P file ys (length room) _ (sym (p .answer)) in
     record {
-      checks = (a .0, a .1);
-      few-enough = b .0;
-      labels-in = c .0;
-      traces = ride-all (stops (filterIn P file) ys) (c .1);
+      checks = rode .checks;
+      few-enough = rode-few ys (length room) (rode .few-enough);
+      labels-in = rode .labels-in;
+      traces = ride-one (stops (filterIn P file) ys) none (rode .rides);
       shows = cc (promise-laid p (sym (p .answer)));
     }
 
--- What a reduction that answers with counts tells of the file and of the answer room.
-record Answered (P : Profile) (file : List ℕ) (found left : Rooms) (c : Counts) : Type 0 where
-  checks : (us : List ℕ) × (checkOf P file ≡ accepted us)
-  length-is : c .length ≡ lengthOf P (reduced (filterIn P file))
-  room : left .answer ≡ laid (reducedFile P file) (found .answer)
+-- What a reduction that answers with counts tells of the file and of the rooms.
+pub record Answered (P : Profile) (file : List ℕ) (found left : Rooms) (c : Counts) : Type 0 where
+  pub checks : (us : List ℕ) × (checkOf P file ≡ accepted us)
+  pub states-are : c .states ≡ states (reduced (filterIn P file))
+  pub colours-are : c .colours ≡ distinct (filterIn P file)
+  pub rounds-are : c .rounds ≡ reduce (filterIn P file) .rounds
+  pub length-is : c .length ≡ lengthOf P (reduced (filterIn P file))
+  pub room : left .answer ≡ laid (reducedFile P file) (found .answer)
 
-answered : (P : Profile) (file : List ℕ) (found left : Rooms) (c : Counts) → ReducePromise P file found (answers.Accepted c) left → Answered P file found left c
+pub answered : (P : Profile) (file : List ℕ) (found left : Rooms) (c : Counts) → ReducePromise P file found (answers.Accepted c) left → Answered P file found left c
 unfolding reduceOf countsOf
 answered P file found left c p =
     let a = onward-accepted (checkOf P file) _ _ (sym (p .answer)) in
     let b = first-accepted (reduceTests P file found) _ _ (a .2) .1 in
+    let F = filterIn P file in
+    let made : c .states ∷ c .colours ∷ c .rounds ∷ c .length ∷ [] ≡ states (reduced F) ∷ distinct F ∷ reduce F .rounds ∷ lengthOf P (reduced F) ∷ [] = cc (sym b) in
     record {
       checks = (a .0, a .1);
-      length-is = cc (sym b);
+      states-are = cc;
+      colours-are = cc;
+      rounds-are = cc;
+      length-is = cc;
       room = cc (promise-laid p (sym (p .answer)));
     }
 
-or-false : (a b : Bool) → a || b ≡ false → (a ≡ false) × (b ≡ false)
-or-false true b h = clash cc
-or-false false b h = (refl, h)
+-- The first `length` bytes of the answer room are the reduced file.
+pub answer-is : (P : Profile) → Usable P → (file : List ℕ) (found left : Rooms) (c : Counts) → Bytes file → Answered P file found left c →
+    take (c .length) (left .answer) ≡ reducedFile P file
+answer-is P usable file found left c bytes f =
+    let w = reduced-writable P usable (filterIn P file) (writable P usable file bytes (f .checks .0) (f .checks .1)) in
+    ap (take (c .length)) (f .room)
+    ∙ take-at (reducedFile P file) (drop (length (reducedFile P file)) (found .answer)) (c .length) (length-written P usable (reduced (filterIn P file)) w ∙ sym (f .length-is))
 
 labels-kept : (P : Profile) (s : List ℕ) → reduced (filterIn P s) .labels ≡ labelsIn P s
 unfolding reduced merged filterIn
@@ -183,13 +175,10 @@ reduce-then-trace P usable file found left c bytes hr ys room room′ ht r other
     let t = all-traced P file ys room room′ ht in
     let us = f .checks .0 in
     let accepts = f .checks .1 in
-    let R = reduced (filterIn P file) in
-    let w = reduced-writable P usable (filterIn P file) (writable P usable file bytes us accepts) in
-    let is : take (c .length) (left .answer) ≡ reducedFile P file =
-    ap (take (c .length)) (f .room) ∙ take-at (reducedFile P file) (drop (length (reducedFile P file)) (found .answer)) (c .length) (length-written P usable R w ∙ sym (f .length-is)) in
+    let is = answer-is P usable file found left c bytes f in
     let labels : labelsIn P (reducedFile P file) ≡ labelsIn P file = holds P usable file bytes us accepts .labels-are ∙ labels-kept P file in
     let kept = reduced-file-traces P usable file bytes us accepts ys (t .traces) in
-    let few = or-false (ltb 65535 (length ys)) (ltb (length room) (length ys + 1)) (t .few-enough) .0 in
+    let few = le-ltb 65535 (length ys) (t .few-enough) in
     let roomy : ltb (length other) (length ys + 1) ≡ false = le-ltb (length other) (length ys + 1) (omega arith) in
     let answer-is : traceOf P (reducedFile P file) ys (length other) ≡ rideOutcome none =
     rw (reduced-file-accepted P usable file bytes us accepts, few, roomy, labels, t .labels-in, kept .0) in

@@ -15,7 +15,7 @@ use Rattle.meaning.specs.Filter.{inOrder}
 use Rattle.layout.specs.declared.Profile.{Profile}
 use Rattle.unpacking.specs.declared.Unpacked.{Unpacked}
 use Rattle.packing.specs.declared.Packed.{Packed}
-use Rattle.layout.specs.Layout.{flat, lengthOf, written, threes, listed}
+use Rattle.layout.specs.Layout.{flat, lengthOf, written, threes, fromLists}
 use Rattle.layout.specs.Code.{Usable}
 use Rattle.layout.specs.Contents.{statesIn, labelsIn, startIn, countIn, coloursIn, edgesIn, filterIn}
 use Rattle.refusals.specs.Refusals.{accepted, laid}
@@ -33,7 +33,7 @@ use Rattle.files.specs.Written.{length-written, written-holds, written-sound, l
 
 module _ (P : Profile) (ok : Usable P) where
   -- the lists of an accepted file are the lists of the filter in it
-  unpacked-filter : (s : List ℕ) → listed (coloursIn P s) (flat (edgesIn P s)) (labelsIn P s) (startIn P s) ≡ filterIn P s
+  unpacked-filter : (s : List ℕ) → fromLists (coloursIn P s) (flat (edgesIn P s)) (labelsIn P s) (startIn P s) ≡ filterIn P s
   unfolding filterIn
   unpacked-filter s = rw (threes-flat (edgesIn P s))
 
@@ -46,25 +46,25 @@ module _ (P : Profile) (ok : Usable P) where
       rw (whole, unpacked-filter s, writable-write P (filterIn P s) room (read-writable P ok s h) (omega arith), long)
 
   pub bytes-unpacked : (s : List ℕ) → Bytes s → Sound P s →
-      written P (listed (coloursIn P s) (flat (edgesIn P s)) (labelsIn P s) (startIn P s)) ≡ s
+      written P (fromLists (coloursIn P s) (flat (edgesIn P s)) (labelsIn P s) (startIn P s)) ≡ s
   bytes-unpacked s b h = rw (unpacked-filter s) (read-back P ok s h b)
 
   module _ (cs es : List ℕ) (m st room : ℕ) (vs : List ℕ) (h : packOf P cs es m st room ≡ accepted vs) where
-    abbrev passed : Written P (listed cs es m st) (eqb (length es % 3) 0) room vs
+    abbrev passed : Written P (fromLists cs es m st) (eqb (length es % 3) 0) room vs
     passed = pack-passed P ok cs es m st room vs h
 
-    pub check-packed : checkOf P (written P (listed cs es m st)) ≡ accepted (length cs ∷ m ∷ st ∷ length es / 3 ∷ [])
+    pub check-packed : checkOf P (written P (fromLists cs es m st)) ≡ accepted (length cs ∷ m ∷ st ∷ length es / 3 ∷ [])
     check-packed =
-        let k = written-holds P ok (listed cs es m st) (passed .writable) in
-        sound-check P (written P (listed cs es m st)) (written-sound P ok (listed cs es m st) (passed .writable))
+        let k = written-holds P ok (fromLists cs es m st) (passed .writable) in
+        sound-check P (written P (fromLists cs es m st)) (written-sound P ok (fromLists cs es m st) (passed .writable))
         ∙ rw (k .states-are, k .labels-are, k .start-is, k .count-is, count-listed P ok cs es m st room vs h)
 
-    pub colours-packed : coloursIn P (written P (listed cs es m st)) ≡ cs
-    colours-packed = written-holds P ok (listed cs es m st) (passed .writable) .colours-are
+    pub colours-packed : coloursIn P (written P (fromLists cs es m st)) ≡ cs
+    colours-packed = written-holds P ok (fromLists cs es m st) (passed .writable) .colours-are
 
-    pub edges-packed : flat (edgesIn P (written P (listed cs es m st))) ≡ es
+    pub edges-packed : flat (edgesIn P (written P (fromLists cs es m st))) ≡ es
     edges-packed =
-        ap flat (written-holds P ok (listed cs es m st) (passed .writable) .edges-are) ∙ flat-listed P ok cs es m st room vs h
+        ap flat (written-holds P ok (fromLists cs es m st) (passed .writable) .edges-are) ∙ flat-listed P ok cs es m st room vs h
 
 -- ---- of the calls
 
@@ -90,7 +90,7 @@ module _ (P : Profile) (ok : Usable P) where
       ∙ laid-front (flat (edgesIn P file)) (found .edges) (3 * e) (length-flat (edgesIn P file) ∙ ap (λ (k : ℕ). 3 * k) (length-edges-in P file ∙ he)) in
       let accepts : packOf P (take n (left .colours)) (take (3 * e) (left .edges)) m start (length room) ≡ accepted (length file ∷ []) =
       rw (cs, es, ← hm, ← hs) (pack-unpacked P ok file (length room) b (q .0) l) in
-      let bytes : written P (listed (take n (left .colours)) (take (3 * e) (left .edges)) m start) ≡ file = rw (cs, es, ← hm, ← hs) (bytes-unpacked P ok file b (q .0)) in
+      let bytes : written P (fromLists (take n (left .colours)) (take (3 * e) (left .edges)) m start) ≡ file = rw (cs, es, ← hm, ← hs) (bytes-unpacked P ok file b (q .0)) in
       (hp .answer ∙ accepts, cc (promise-laid hp accepts) ∙ ap (λ (s : List ℕ). laid s room) bytes)
 
   -- what was packed into a room, and unpacked from its first bytes, gives the lists and the numbers, and behind them the rooms
@@ -102,7 +102,7 @@ module _ (P : Profile) (ok : Usable P) where
       (unpackedOutcome u ≡ accepted (length colours ∷ m ∷ start ∷ length edges / 3 ∷ []))
       × (left .colours ≡ laid colours (found .colours)) × (left .edges ≡ laid edges (found .edges))
   unpack-after-pack colours edges m start room room′ p n found left u hp a hu lc le =
-      let F = listed colours edges m start in
+      let F = fromLists colours edges m start in
       let h : packOf P colours edges m start (length room) ≡ accepted (n ∷ []) = sym (hp .answer) ∙ a in
       let passed = pack-passed P ok colours edges m start (length room) (n ∷ []) h in
       let long : length (written P F) ≡ n = length-written P ok F (passed .writable) ∙ cc (passed .are) in

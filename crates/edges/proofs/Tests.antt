@@ -9,18 +9,18 @@ use native.Mathlib.Omega.{arith}
 use lib.Dec.{eqb, ltb}
 use borrow.Author.Tests.{lt-ltb, le-ltb, eq-eqb, ne-eqb, ltb-true, ltb-false, eqb-true, eqb-false}
 use Rattle.meaning.specs.Pick.{pick}
-use Rattle.meaning.specs.Cases.{clash, test, and-left, and-right}
+use Rattle.meaning.specs.Cases.{impossible, cases-of, and-left, and-right}
 use Rattle.meaning.specs.Filter.{Edge, inside, comesBefore, samePlace, each, leads, ascending}
 use Rattle.refusals.specs.Refusals.{Outcome, accepted, refused}
 use Rattle.edges.specs.Faults.{orderFault, edgeFault, Fault, faultAt, firstFault, edgesThen}
 use Rattle.edges.specs.Walk.{rankOf, Ranked}
 
 none-some : {A : Type 0} (k : ℕ) → _≡_ {A = Option ℕ} (some k) none → A
-none-some k h = clash cc
+none-some k h = impossible cc
 
 pub edges-accepted : (place : ℕ → ℕ) (f : Option Fault) (next : Outcome) (vs : List ℕ) → edgesThen place f next ≡ accepted vs → (f ≡ none) × (next ≡ accepted vs)
 edges-accepted place none next vs h = (refl, h)
-edges-accepted place (some f) next vs h = clash cc
+edges-accepted place (some f) next vs h = impossible cc
 
 order : (x y : ℕ) → y ≤ x → (x ≡ y → ⊥) → y < x
 order x y h n = go (ltb y x) refl
@@ -39,7 +39,7 @@ after a b h k = go (ltb (b .source) (a .source)) refl
     go false e = low (ltb (a .source) (b .source)) refl
       where
         low : (t : Bool) → ltb (a .source) (b .source) ≡ t → ltb (b .source) (a .source) || (eqb (b .source) (a .source) && ltb (b .label) (a .label)) ≡ true
-        low true f = let z : true ≡ false = rw f at h in clash cc
+        low true f = let z : true ≡ false = rw f at h in impossible cc
         low false f =
             let s : a .source ≡ b .source = omega (arith, ltb-false (b .source) (a .source) e, ltb-false (a .source) (b .source) f) in
             let s1 : eqb (a .source) (b .source) ≡ true = eq-eqb _ _ s in
@@ -69,7 +69,7 @@ inside-clear n m before e h = inside-pick (inside n m e) (orderFault before e) h
 
 at-clear : (i : ℕ) (f : Option ℕ) (next : Option Fault) → faultAt i f next ≡ none → (f ≡ none) × (next ≡ none)
 at-clear i none next h = (refl, h)
-at-clear i (some k) next h = clash cc
+at-clear i (some k) next h = impossible cc
 
 clear-first : (n m i : ℕ) (before : Option Edge) (e : Edge) (es : List Edge) → firstFault n m before i (e ∷ es) ≡ none →
     (edgeFault n m before e ≡ none) × (firstFault n m (some e) (suc i) es ≡ none)
@@ -98,7 +98,7 @@ fault-free n m i before (e ∷ es) h =
 -- and edges that are inside and ascend strictly have none
 after-not : (a b : Edge) → comesBefore b a ≡ true → (comesBefore a b ≡ false) × (samePlace a b ≡ false)
 unfolding comesBefore samePlace
-after-not a b h = test (ltb (b .source) (a .source))
+after-not a b h = cases-of (ltb (b .source) (a .source))
     (λ q. let l = ltb-true (b .source) (a .source) q in
     (rw (le-ltb (a .source) (b .source) (omega arith), ne-eqb (a .source) (b .source) (λ e. omega arith)), rw (ne-eqb (a .source) (b .source) (λ e. omega arith))))
     (λ q. let r : eqb (b .source) (a .source) && ltb (b .label) (a .label) ≡ true = rw q at h in
@@ -115,7 +115,7 @@ order-free (some b) e h = let q = after-not e b (h b refl) in rw (q .0, q .1)
 by-rank : (a b : Edge) → b .label < 256 → rankOf (some a) < rankOf (some b) → comesBefore a b ≡ true
 unfolding comesBefore
 by-rank a b low h =
-    test (ltb (a .source) (b .source)) (λ p. rw p)
+    cases-of (ltb (a .source) (b .source)) (λ p. rw p)
     (λ p. let l = ltb-false (a .source) (b .source) p in
     rw (p, eq-eqb (a .source) (b .source) (omega arith), lt-ltb (a .label) (b .label) (omega arith)))
 
@@ -127,7 +127,7 @@ at-rank a b al bl h =
     (rw (s, le-ltb (a .source) (b .source) (omega arith), le-ltb (a .label) (b .label) (omega arith)), rw (s, eq-eqb (a .label) (b .label) (omega arith)))
 
 pub ranked-none : Ranked 0 none
-ranked-none = record { rank = refl; label = λ b p. clash cc }
+ranked-none = record { rank = refl; label = λ b p. impossible cc }
 
 pub ranked-edge : (last : ℕ) (e : Edge) → last ≡ rankOf (some e) → e .label < 256 → Ranked last (some e)
 ranked-edge last e is low = record { rank = is; label = λ b p. let q : e ≡ b = cc in rw (← q) low }
@@ -160,10 +160,10 @@ clear-order n m i before (e ∷ es) ins asc lead =
 -- a fault that is found decides, whatever follows
 pub decided : (i : ℕ) (f : Option ℕ) (next : Option Fault) (r : Fault) → some r ≡ faultAt i f none → some r ≡ faultAt i f next
 decided i (some k) next r h = h
-decided i none next r h = clash cc
+decided i none next r h = impossible cc
 
 pub undecided : (i : ℕ) (f : Option ℕ) → none ≡ faultAt i f none → f ≡ none
-undecided i (some k) h = clash cc
+undecided i (some k) h = impossible cc
 undecided i none h = refl
 
 pub fault-next : (n m i : ℕ) (before : Option Edge) (e : Edge) (es : List Edge) → none ≡ faultAt i (edgeFault n m before e) none →

@@ -1,3 +1,4 @@
 pub mod Files
 pub mod Tests
 pub mod Written
+pub mod Places

@@ -21,12 +21,12 @@ use Rattle.pen.proofs.Parts.{cover}
 use Rattle.bits.proofs.Parts.{bytes-replicate}
 use Rattle.meaning.specs.Filter.{Edge, Filter, states, inside, each, inOrder}
 use Rattle.layout.specs.declared.Profile.{Profile}
-use Rattle.layout.specs.Layout.{headerBits, edgeBits, edgesBegin, fileBits, bytesFor, fileLength, fillBits, edgeWidths, fileWidths, flat, fileValues, lengthOf, written, threes}
+use Rattle.layout.specs.Layout.{large, headerBits, edgeBits, edgesBegin, fileBits, bytesFor, fileLength, fillBits, edgeWidths, fileWidths, flat, fileValues, lengthOf, written, threes}
 use Rattle.layout.specs.Code.{Usable}
 use Rattle.layout.specs.Contents.{statesIn, labelsIn, startIn, countIn, coloursIn, edgesFrom, edgesIn, filterIn, lengthIn, fillingIn}
 use Rattle.files.specs.Files.{checkOf, allBelow}
 use Rattle.refusals.specs.Refusals.{accepted, laid}
-use Rattle.layout.proofs.Bounds.{states-low, labels-low, states-fit, labels-fit, states-pow, labels-pow}
+use Rattle.layout.proofs.Bounds.{large-usable, states-low, labels-low, states-fit, labels-fit, states-pow, labels-pow}
 use Rattle.layout.proofs.EdgeLists.{fields-edges, length-edges, length-widths, total-edges, length-flat, threes-flat}
 use Rattle.meaning.specs.Cases.{and-left, and-right}
 use Rattle.files.specs.Tests.{Sound, check-sound, Writable, writable-in-order}
@@ -334,3 +334,19 @@ module _ (P : Profile) (ok : Usable P) (s : List ℕ) (h : Sound P s) where
 -- an accepted file holds a filter that is in order
 pub checked-in-order : (P : Profile) → Usable P → (s vs : List ℕ) → checkOf P s ≡ accepted vs → inOrder (filterIn P s) ≡ true
 checked-in-order P ok s vs h = writable-in-order P (filterIn P s) (read-writable P ok s (check-sound P s vs h .0))
+
+-- no file that is written, and none that is accepted, is longer than this: 256 states, 64 labels and an edge for each
+pub largest-length : (F : Filter) → Writable large F → lengthOf large F ≤ 45253
+unfolding lengthOf fileLength bytesFor fileBits edgesBegin headerBits edgeBits
+largest-length F w =
+    let most : states F * F .labels ≤ 256 * 64 = mul-le-mul (w .states-high) (w .labels-high) in
+    omega (arith, w .states-high, w .count-in, most)
+
+pub largest-file : (s vs : List ℕ) → checkOf large s ≡ accepted vs → length s ≤ 45253
+unfolding lengthIn fileLength bytesFor fileBits edgesBegin headerBits edgeBits
+largest-file s vs h =
+    let q = check-sound large s vs h .0 in
+    let n : statesIn large s ≤ 256 = states-fit large large-usable s in
+    let m : labelsIn large s ≤ 64 = labels-fit large large-usable s in
+    let most : statesIn large s * labelsIn large s ≤ 256 * 64 = mul-le-mul n m in
+    omega (arith, q .long, q .count-in, most)

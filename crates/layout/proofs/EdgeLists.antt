@@ -21,7 +21,7 @@ use Rattle.layout.specs.declared.Profile.{Profile}
 use Rattle.layout.specs.Layout.{edgeBits, edgeWidths, flat, putEdges, threes}
 use Rattle.layout.specs.Code.{edgeIn}
 use Rattle.layout.specs.Contents.{edgeAt, edgesFrom}
-use Rattle.meaning.specs.Cases.{clash}
+use Rattle.meaning.specs.Cases.{impossible}
 
 -- ---- as bytes, three an edge
 

@@ -68,8 +68,8 @@ threes (s ∷ l ∷ []) = []
 threes (s ∷ l ∷ t ∷ rest) = record { source = s; label = l; target = t } ∷ threes rest
 
 -- The filter of a colour list, an edge list, m and a start.
-abbrev pub listed : List ℕ → List ℕ → ℕ → ℕ → Filter
-listed colours edges m start = record { colours = colours; labels = m; start = start; edges = threes edges }
+abbrev pub fromLists : List ℕ → List ℕ → ℕ → ℕ → Filter
+fromLists colours edges m start = record { colours = colours; labels = m; start = start; edges = threes edges }
 
 -- A room with edges written one after another from bit `at` on.
 abbrev pub putEdges : Profile → List ℕ → ℕ → List Edge → List ℕ

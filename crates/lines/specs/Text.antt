@@ -1,8 +1,9 @@
--- The text that `reduce` prints, and the refusal line of every program (document 01, "Three programs"): fields parted by one
+-- The text that `reduce` prints, and the refusal line of every program (document 01, "Three programs"): fields spaced by one
 -- space, decimal numbers, each line ended by one newline byte. Bytes are ASCII.
 -- Assumes nothing.
 use Prim.Native.Nat.{ℕ, suc}
 use mathlib.Core.List.{List, [], _∷_, _++_}
+use Rattle.refusals.specs.Refusals.{Outcome, accepted, refused}
 use Rattle.text.specs.Decimal.{decimal}
 
 abbrev pub space : List ℕ
@@ -15,9 +16,9 @@ newline = 10 ∷ []
 abbrev pub refusedWord : List ℕ
 refusedWord = 114 ∷ 101 ∷ 102 ∷ 117 ∷ 115 ∷ 101 ∷ 100 ∷ 32 ∷ []
 
--- A number parted from the next by one space.
-abbrev pub parted : ℕ → List ℕ
-parted n = decimal n ++ space
+-- A number spaced from the next by one space.
+abbrev pub spaced : ℕ → List ℕ
+spaced n = decimal n ++ space
 
 -- A number at the end of its line.
 abbrev pub ended : ℕ → List ℕ
@@ -25,15 +26,20 @@ ended n = decimal n ++ newline
 
 -- Two numbers on one line.
 unfoldable pub pairLine : ℕ → ℕ → List ℕ
-pairLine a b = parted a ++ ended b
+pairLine a b = spaced a ++ ended b
 
 -- Four numbers on one line.
 unfoldable pub fourLine : ℕ → ℕ → ℕ → ℕ → List ℕ
-fourLine a b c d = parted a ++ (parted b ++ (parted c ++ ended d))
+fourLine a b c d = spaced a ++ (spaced b ++ (spaced c ++ ended d))
 
 -- `refused`, the number and the place on one line.
 unfoldable pub refusalLine : ℕ → ℕ → List ℕ
 refusalLine number place = refusedWord ++ pairLine number place
+
+-- What a program prints: the refusal line of a refusal, else its text.
+abbrev pub orRefusal : Outcome → List ℕ → List ℕ
+orRefusal (accepted vs) text = text
+orRefusal (refused number place) text = refusalLine number place
 
 -- For each state from s on a line with its number and its new number; the list has the new numbers.
 unfoldable pub pairLines : ℕ → List ℕ → List ℕ

@@ -15,7 +15,7 @@ use lib.Seq.{getD-drop, getD-append-add}
 use borrow.Author.Tests.{ltb-true}
 use Rattle.bits.proofs.Reading.{field-lt}
 use Rattle.pen.specs.Runs.{fields}
-use Rattle.meaning.specs.Cases.{clash, test, and-left, same²}
+use Rattle.meaning.specs.Cases.{impossible, cases-of, and-left, same²}
 use Rattle.meaning.specs.Demand.{fits}
 use Rattle.meaning.specs.Filter.{Edge, each, inside, ascending, states}
 use Rattle.meaning.specs.Search.{at}
@@ -51,7 +51,7 @@ use Rattle.loading.specs.Loading.{Loadable, Loaded, Tabled}
 look-more : (T T′ : Table) (es : List Edge) (e : Edge) (rest : List Edge) → Put T T′ (e .source) (e .label) (e .target) →
     look T ≡ target es → ascending (es ++ (e ∷ rest)) ≡ true → look T′ ≡ target (es ++ (e ∷ []))
 unfolding withEdge
-look-more T T′ es e rest put is order = put .edges ∙ fun-ext λ s. fun-ext λ y. test (stands e s y)
+look-more T T′ es e rest put is order = put .edges ∙ fun-ext λ s. fun-ext λ y. cases-of (stands e s y)
     (λ q. let here = same² (e .source) s (e .label) y q in
     rw q (sym (target-snoc es e s y (rw (← here .0, ← here .1) (target-fresh es e rest order)) ∙ rw q)))
     (λ q. rw q (ap (λ (f : ℕ → ℕ → Option ℕ). f s y) is ∙ sym (target-before es e s y q)))
@@ -132,7 +132,7 @@ pub loaded-refused : (P : Profile) (file : List ℕ) (r : Checked) (why : Refusa
     checkOf P file ≡ refusalOutcome why → SameRows T T′ → Loaded P file r T T′
 loaded-refused P file r why T T′ is h rows = record {
   answer = is ∙ sym h;
-  edges = λ numbers k. let z : refusalOutcome why ≡ accepted numbers = sym h ∙ k in clash cc;
+  edges = λ numbers k. let z : refusalOutcome why ≡ accepted numbers = sym h ∙ k in impossible cc;
   rows = rows;
 }
 

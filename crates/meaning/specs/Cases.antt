@@ -8,13 +8,13 @@ use lib.Dec.{eqb}
 use borrow.Author.Tests.{eqb-true}
 
 -- what cannot be: two numbers that differ are equal
-pub clash {ℓ} : {A : Type ℓ} → _≡_ {A = ℕ} 0 1 → A
-clash z = let no : ⊥ = omega arith in absurd no
+pub impossible {ℓ} : {A : Type ℓ} → _≡_ {A = ℕ} 0 1 → A
+impossible z = let no : ⊥ = omega arith in absurd no
 
 -- a test's two cases, with the equation
-pub test {ℓ} : {A : Type ℓ} (b : Bool) → (b ≡ true → A) → (b ≡ false → A) → A
-test true f g = f refl
-test false f g = g refl
+pub cases-of {ℓ} : {A : Type ℓ} (b : Bool) → (b ≡ true → A) → (b ≡ false → A) → A
+cases-of true f g = f refl
+cases-of false f g = g refl
 
 pub no-both {ℓ} : {A : Type ℓ} {b : Bool} → b ≡ true → b ≡ false → A
 no-both p q = absurd (true≢false (sym p ∙ q))

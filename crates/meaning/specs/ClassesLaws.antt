@@ -10,7 +10,7 @@ use lib.ListN.{length, length-append, List·getD-append}
 use lib.Seq.{getD-at}
 use borrow.Author.Tests.{eqb-true, eqb-false, eq-eqb, ne-eqb, not-true}
 use Rattle.meaning.specs.Search.{any, least, count, at}
-use Rattle.meaning.specs.Cases.{test, same², no-both, and-intro, and-left, and-right}
+use Rattle.meaning.specs.Cases.{cases-of, same², no-both, and-intro, and-left, and-right}
 use Rattle.meaning.specs.SearchLaws.{any-intro, any-elim, least-max, least-ok, least-of, least-none, at-tab, count-more}
 use Rattle.meaning.specs.Classes.{parted, first, free, groups, split, named, classes}
 
@@ -33,7 +33,7 @@ module _ (mem : ℕ → Bool) (clash : ℕ → ℕ → Bool) where
 
   pub groups-at : (n i : ℕ) → i < n → at (groups mem clash n) i ≡ at (groups mem clash (suc i)) i
   groups-at zero i h = absurd (not-suc-le-zero h)
-  groups-at (suc n) i h = test (eqb i n)
+  groups-at (suc n) i h = cases-of (eqb i n)
       (λ q. rw (eqb-true i n q))
       (λ q. let w : i < n = omega (arith, eqb-false i n q) in
       older n i w ∙ groups-at n i w)
@@ -63,10 +63,10 @@ module _ (mem : ℕ → Bool) (clash : ℕ → ℕ → Bool) where
 -- ---- a split of class c by group numbers G
 
 module _ (n : ℕ) (P : List ℕ) (nm : Named n P) (c : ℕ) (hc : c < n) (oc : at P c ≡ c) (G : List ℕ) where
-  abbrev pub pick : ℕ → ℕ
-  pick s = least (λ t. eqb (at P t) c && eqb (at G t) (at G s)) n
+  abbrev pub new-name : ℕ → ℕ
+  new-name s = least (λ t. eqb (at P t) c && eqb (at G t) (at G s)) n
 
-  pub split-in : (s : ℕ) → s < n → at P s ≡ c → at (split n P c G) s ≡ pick s
+  pub split-in : (s : ℕ) → s < n → at P s ≡ c → at (split n P c G) s ≡ new-name s
   unfolding split
   split-in s h e = at-tab n _ s h ∙ rw (eq-eqb (at P s) c e)
 
@@ -75,27 +75,27 @@ module _ (n : ℕ) (P : List ℕ) (nm : Named n P) (c : ℕ) (hc : c < n) (oc : 
   split-out s h e = at-tab n _ s h ∙ rw (ne-eqb (at P s) c e)
 
   pub record Picked (s : ℕ) : Type 0 where
-    pub low : pick s ≤ s
-    pub class : at P (pick s) ≡ c
-    pub group : at G (pick s) ≡ at G s
+    pub low : new-name s ≤ s
+    pub class : at P (new-name s) ≡ c
+    pub same-group : at G (new-name s) ≡ at G s
 
   pub picked : (s : ℕ) → s < n → at P s ≡ c → Picked s
   picked s h e =
       let r = least-of (λ t. eqb (at P t) c && eqb (at G t) (at G s)) n s h (and-intro (eq-eqb _ _ e) (eq-eqb (at G s) (at G s) refl)) in
       record {
         low = r .0;
-        class = same² (at P (pick s)) c (at G (pick s)) (at G s) (r .1) .0;
-        group = same² (at P (pick s)) c (at G (pick s)) (at G s) (r .1) .1;
+        class = same² (at P (new-name s)) c (at G (new-name s)) (at G s) (r .1) .0;
+        same-group = same² (at P (new-name s)) c (at G (new-name s)) (at G s) (r .1) .1;
       }
 
   -- a state's new name is in its old class
   pub split-class : (s : ℕ) → s < n → at P s < n → at P (at (split n P c G) s) ≡ at P s
-  split-class s h l = test (eqb (at P s) c)
+  split-class s h l = cases-of (eqb (at P s) c)
       (λ q. let e = eqb-true _ _ q in rw (split-in s h e, e) (picked s h e .class))
       (λ q. rw (split-out s h (eqb-false _ _ q)) (nm .own s h l))
 
   pub split-live : (s : ℕ) → s < n → at (split n P c G) s < n → at P s < n
-  split-live s h l = test (eqb (at P s) c)
+  split-live s h l = cases-of (eqb (at P s) c)
       (λ q. omega (arith, eqb-true (at P s) c q))
       (λ q. rw (split-out s h (eqb-false _ _ q)) at l)
 
@@ -103,26 +103,26 @@ module _ (n : ℕ) (P : List ℕ) (nm : Named n P) (c : ℕ) (hc : c < n) (oc : 
   split-named = record { low = low; own = own }
     where
       low : (s : ℕ) → s < n → at (split n P c G) s < n → at (split n P c G) s ≤ s
-      low s h l = test (eqb (at P s) c)
+      low s h l = cases-of (eqb (at P s) c)
           (λ q. let e = eqb-true _ _ q in rw (split-in s h e) (picked s h e .low))
           (λ q. rw (split-out s h (eqb-false _ _ q)) (nm .low s h (split-live s h l)))
 
       own : (s : ℕ) → s < n → at (split n P c G) s < n → at (split n P c G) (at (split n P c G) s) ≡ at (split n P c G) s
-      own s h l = test (eqb (at P s) c)
+      own s h l = cases-of (eqb (at P s) c)
           (λ q. let e = eqb-true _ _ q in
           let k = picked s h e in
-          let w : pick s < n = omega (arith, k .low) in
-          rw (split-in s h e) (split-in (pick s) w (k .class) ∙ ap (λ g. least (λ t. eqb (at P t) c && eqb (at G t) g) n) (k .group)))
+          let w : new-name s < n = omega (arith, k .low) in
+          rw (split-in s h e) (split-in (new-name s) w (k .class) ∙ ap (λ g. least (λ t. eqb (at P t) c && eqb (at G t) g) n) (k .same-group)))
           (λ q. let e = eqb-false _ _ q in
           let w : at P s < n = split-live s h l in
           rw (split-out s h e) (split-out (at P s) w (rw (nm .own s h w) e) ∙ nm .own s h w))
 
   -- what was a name stays one
   pub split-keeps : (t : ℕ) → t < n → at P t ≡ t → at (split n P c G) t ≡ t
-  split-keeps t h e = test (eqb (at P t) c)
+  split-keeps t h e = cases-of (eqb (at P t) c)
       (λ q. let e′ = eqb-true _ _ q in
       let k = picked t h e′ in
-      let w = nm .low (pick t) (omega (arith, k .low)) (omega (arith, k .class)) in
+      let w = nm .low (new-name t) (omega (arith, k .low)) (omega (arith, k .class)) in
       split-in t h e′ ∙ omega (arith, k .low, k .class))
       (λ q. split-out t h (eqb-false _ _ q) ∙ e)
 
@@ -130,12 +130,12 @@ module _ (n : ℕ) (P : List ℕ) (nm : Named n P) (c : ℕ) (hc : c < n) (oc : 
   pub split-new : (u : ℕ) → u < n → at P u ≡ c → (at G u ≡ at G c → ⊥) → (w : ℕ) × (w < n) × (at (split n P c G) w ≡ w) × (at P w ≡ w → ⊥)
   split-new u h e ne =
       let k = picked u h e in
-      let w : pick u < n = omega (arith, k .low) in
+      let w : new-name u < n = omega (arith, k .low) in
       let l : at (split n P c G) u < n = rw (split-in u h e) w in
-      (pick u, w, (rw (split-in u h e) at (split-named .own u h l)), λ o. ne (sym (k .group) ∙ ap (at G) (sym o ∙ k .class)))
+      (new-name u, w, (rw (split-in u h e) at (split-named .own u h l)), λ o. ne (sym (k .same-group) ∙ ap (at G) (sym o ∙ k .class)))
 
   pub split-all : (s : ℕ) → s < n → at P s < n → at (split n P c G) s < n
-  split-all s h l = test (eqb (at P s) c)
+  split-all s h l = cases-of (eqb (at P s) c)
       (λ q. let e = eqb-true _ _ q in rw (split-in s h e) (omega (arith, picked s h e .low)))
       (λ q. rw (split-out s h (eqb-false _ _ q)) l)
 
@@ -169,7 +169,7 @@ pair n clash P c e =
 pub unparted : (n : ℕ) (clash : ℕ → ℕ → Bool) (P : List ℕ) (c : ℕ) → parted n clash P c ≡ false
     → (s t : ℕ) → s < t → t < n → at P s ≡ c → at P t ≡ c → clash s t ≡ false
 unfolding parted
-unparted n clash P c h s t l lt es et = test (clash s t)
+unparted n clash P c h s t l lt es et = cases-of (clash s t)
     (λ q. no-both (any-intro _ n t lt (and-intro (eq-eqb (at P t) c et) (any-intro _ t s l (and-intro (eq-eqb (at P s) c es) q)))) h)
     (λ q. q)
 
@@ -198,6 +198,6 @@ module _ (n : ℕ) (clash : ℕ → ℕ → Bool) (P : List ℕ) (nm : Named n P
         count-more (named P) (named (split n P c G)) n
         (λ t l o. eq-eqb _ _ (split-keeps n P nm c hc name-own G t l (eqb-true _ _ o)))
         (w .0) (w .1) (ne-eqb _ _ (w .3)) (eq-eqb _ _ (w .2)) in
-        test (eqb (at G (p .lower)) (at G c))
+        cases-of (eqb (at G (p .lower)) (at G c))
         (λ q. more (p .higher) (p .inside) (p .higher-in) (λ o. proper (p .lower) (p .higher) (p .ascend) (p .inside) (p .lower-in) (p .higher-in) (p .clashes) (eqb-true _ _ q ∙ sym o)))
         (λ q. more (p .lower) i (p .lower-in) (eqb-false _ _ q))

@@ -7,7 +7,7 @@ use native.Mathlib.Omega.{arith}
 use lib.Dec.{eqb}
 use borrow.Author.Tests.{eqb-true, eqb-false, eq-eqb, ne-eqb}
 use Rattle.meaning.specs.Search.{any, least, count, bit, at}
-use Rattle.meaning.specs.Cases.{test, and-intro}
+use Rattle.meaning.specs.Cases.{cases-of, and-intro}
 use Rattle.meaning.specs.SearchLaws.{any-elim, any-none, least-le, least-is, count-none, count-cong}
 use Rattle.meaning.specs.Classes.{Task, initial, named, classes}
 use Rattle.meaning.specs.Reduction.{Fair, initial-in, initial-out}
@@ -39,7 +39,7 @@ module _ (b : Bool) (x : ℕ) (q : ℕ → Bool) where
   on : (k : ℕ) → x < k → count (λ c. b && eqb x c || q c) k ≡ count q k + bit (b && not (q x))
   unfolding count
   on zero h = absurd (not-suc-le-zero h)
-  on (suc k) h = test (eqb x k)
+  on (suc k) h = cases-of (eqb x k)
       (λ e. let e′ = eqb-true x k e in
       omega (arith, off k (omega arith), bit-hit b (q k) (eqb x k) e, ap (λ y. bit (b && not (q y))) e′))
       (λ e. omega (arith, on k (omega (arith, eqb-false x k e)), bit-miss b (q k) (eqb x k) e))
@@ -55,8 +55,8 @@ occurring-firsts live colour k (suc n) h =
 named-first : (T : Task) → Fair T → (s : ℕ) → s < T .size → named (initial T) s ≡ (T .live s && not (any (λ t. T .live t && eqb (T .colour t) (T .colour s)) s))
 named-first T fair s h =
     let p : ℕ → Bool = λ t. T .live t && eqb (T .colour t) (T .colour s) in
-    test (T .live s)
-    (λ l. ap (λ k. eqb k s) (initial-in T fair s h l) ∙ test (any p s)
+    cases-of (T .live s)
+    (λ l. ap (λ k. eqb k s) (initial-in T fair s h l) ∙ cases-of (any p s)
     (λ q. let (t, k, e) = any-elim p s q in
     rw (q, l) (ne-eqb (least p (T .size)) s (λ z. omega (arith, least-le p (T .size) t e))))
     (λ q. rw (q, l) (eq-eqb _ _ (least-is p (T .size) s h (and-intro l (eq-eqb (T .colour s) (T .colour s) refl)) (λ i k. any-none p s i k q)))))

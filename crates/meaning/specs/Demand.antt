@@ -10,7 +10,7 @@ use lib.Dec.{eqb, ltb}
 use lib.ListN.{length}
 use borrow.Author.Tests.{eqb-true, eq-eqb, lt-ltb, ltb-true}
 use Rattle.meaning.specs.Search.{least, count, at}
-use Rattle.meaning.specs.Cases.{or-left, test, same², and-intro, and-left, and-right, no-both, or-right}
+use Rattle.meaning.specs.Cases.{or-left, cases-of, same², and-intro, and-left, and-right, no-both, or-right}
 use Rattle.meaning.specs.SearchLaws.{count-max, count-none, least-ok, length-tab}
 use Rattle.meaning.specs.Classes.{chosen, named, classes, number}
 use Rattle.meaning.specs.ClassesLaws.{groups-apart}
@@ -95,7 +95,7 @@ keyed-most P n m (e ∷ es) = omega (arith, cells-on (number P (e .source)) (e .
 keyed-find : (P : List ℕ) (es : List Edge) (s y t : ℕ) → target es s y ≡ some t → keyed P es (number P s) y ≡ true
 unfolding keyed target
 keyed-find P [] s y t e = cc
-keyed-find P (d ∷ es) s y t e = test (eqb (d .source) s && eqb (d .label) y)
+keyed-find P (d ∷ es) s y t e = cases-of (eqb (d .source) s && eqb (d .label) y)
     (λ q. let r = same² (d .source) s (d .label) y q in
     or-right (keyed P es (number P s) y) (and-intro (eq-eqb _ _ (ap (number P) (sym (r .0)))) (eq-eqb _ _ (sym (r .1)))))
     (λ q. or-left (eqb (number P s) (number P (d .source)) && eqb y (d .label)) (keyed-find P es s y t (rw (q, target) at e)))
@@ -145,7 +145,7 @@ module _ (F : Filter) (few : states F ≤ 256) (ok : inOrder F ≡ true) where
   live-in s h l = record { state = h; seat = good .all s h l }
 
   in-live : (s : ℕ) → In (states F) (reduce F .names) s → live F s ≡ true
-  in-live s h = test (live F s) (λ q. q) (λ q. absurd (omega (arith, fair .small, good .out s (h .state) q, h .seat)))
+  in-live s h = cases-of (live F s) (λ q. q) (λ q. absurd (omega (arith, fair .small, good .out s (h .state) q, h .seat)))
 
   onward : (s y t : ℕ) → In (states F) (reduce F .names) s → edge F s y ≡ some t → In (states F) (reduce F .names) t
   onward s y t h e = live-in t (fits F few ok .within s y t e .2) (target-live s y t (in-live s h) e)

@@ -10,7 +10,7 @@ use lib.Dec.{eqb, ltb}
 use lib.ListN.{length, length-append}
 use borrow.Author.Tests.{eqb-true, eqb-false, eq-eqb, ne-eqb, lt-ltb}
 use Rattle.meaning.specs.Search.{count, at, bit}
-use Rattle.meaning.specs.Cases.{test, same², and-intro, and-left, and-right, no-both, or-right}
+use Rattle.meaning.specs.Cases.{cases-of, same², and-intro, and-left, and-right, no-both, or-right}
 use Rattle.meaning.specs.SearchLaws.{count-max, count-mono}
 use Rattle.meaning.specs.Filter.{Edge, leads, ascending, comesBefore, each}
 use Rattle.meaning.specs.Trace.{target}
@@ -22,14 +22,14 @@ module _ (a b : ℕ) where
   find-right : (es fs : List Edge) → target es a b ≡ none → target (es ++ fs) a b ≡ target fs a b
   unfolding target
   find-right [] fs h = refl
-  find-right (e ∷ es) fs h = test (eqb (e .source) a && eqb (e .label) b)
+  find-right (e ∷ es) fs h = cases-of (eqb (e .source) a && eqb (e .label) b)
       (λ q. let f = rw (q, target) at h in cc)
       (λ q. rw (q, target) (find-right es fs (rw (q, target) at h)))
 
   find-left : (es fs : List Edge) → target fs a b ≡ none → target (es ++ fs) a b ≡ target es a b
   unfolding target
   find-left [] fs h = h
-  find-left (e ∷ es) fs h = test (eqb (e .source) a && eqb (e .label) b)
+  find-left (e ∷ es) fs h = cases-of (eqb (e .source) a && eqb (e .label) b)
       (λ q. rw (q, target))
       (λ q. rw (q, target) (find-left es fs h))
 
@@ -52,16 +52,16 @@ module _ (a b : ℕ) where
   unfolding row target
   row-above next zero h = refl
   row-above next (suc y) h = find-right (row next a y) (cell a y (next y)) (row-above next y (omega arith))
-      ∙ cell-miss a y (next y) (test (eqb a a) (λ q. rw (q, ne-eqb y b (λ e. omega arith))) (λ q. rw q))
+      ∙ cell-miss a y (next y) (cases-of (eqb a a) (λ q. rw (q, ne-eqb y b (λ e. omega arith))) (λ q. rw q))
 
   row-in : (next : ℕ → Option ℕ) (y : ℕ) → b < y → target (row next a y) a b ≡ next b
   unfolding row
   row-in next zero h = absurd (not-suc-le-zero h)
-  row-in next (suc y) h = test (eqb y b)
+  row-in next (suc y) h = cases-of (eqb y b)
       (λ q. let q′ = eqb-true y b q in
       rw q′ (find-right (row next a b) (cell a b (next b)) (row-above next b (omega arith)) ∙ cell-hit (next b)))
       (λ q. let q′ = eqb-false y b q in
-      find-left (row next a y) (cell a y (next y)) (cell-miss a y (next y) (test (eqb a a) (λ r. rw (r, ne-eqb y b q′)) (λ r. rw r)))
+      find-left (row next a y) (cell a y (next y)) (cell-miss a y (next y) (cases-of (eqb a a) (λ r. rw (r, ne-eqb y b q′)) (λ r. rw r)))
       ∙ row-in next y (omega (arith, q′)))
 
   pub listed-above : (next : ℕ → ℕ → Option ℕ) (m n : ℕ) → n ≤ a → target (listed next n m) a b ≡ none
@@ -73,7 +73,7 @@ module _ (a b : ℕ) where
   pub find-listed : (next : ℕ → ℕ → Option ℕ) (n m : ℕ) → a < n → b < m → target (listed next n m) a b ≡ next a b
   unfolding listed
   find-listed next zero m h l = absurd (not-suc-le-zero h)
-  find-listed next (suc n) m h l = test (eqb n a)
+  find-listed next (suc n) m h l = cases-of (eqb n a)
       (λ q. rw (eqb-true n a q) (find-right (listed next a m) (row (next a) a m) (listed-above next m a (omega arith)) ∙ row-in (next a) m l))
       (λ q. let q′ = eqb-false n a q in
       find-left (listed next n m) (row (next n) n m) (row-other (next n) n m q′) ∙ find-listed next n m (omega (arith, q′)) l)
@@ -143,14 +143,14 @@ module _ (x z : ℕ) where
   count-on : (q : ℕ → Bool) (m : ℕ) → count (λ b. q b || eqb b z) m ≤ suc (count q m)
   unfolding count
   count-on q zero = omega arith
-  count-on q (suc m) = test (eqb m z)
+  count-on q (suc m) = cases-of (eqb m z)
       (λ r. omega (arith, count-off q m (omega (arith, eqb-true m z r)), bit-or (q m) (eqb m z), bit-max (eqb m z)))
       (λ r. omega (arith, count-on q m, bit-or (q m) (eqb m z), ap bit r))
 
   pub cells-on : (q : ℕ → ℕ → Bool) (n m : ℕ) → cells (λ a b. q a b || (eqb a x && eqb b z)) n m ≤ suc (cells q n m)
   unfolding cells
   cells-on q zero m = omega arith
-  cells-on q (suc n) m = test (eqb n x)
+  cells-on q (suc n) m = cases-of (eqb n x)
       (λ r. omega (
         arith,
         cells-mono (λ a b. q a b || (eqb a x && eqb b z)) q n m (λ a b k l e. or-no (q a b) (rw (ne-eqb a x (λ f. omega (arith, eqb-true n x r)))) e),
@@ -237,7 +237,7 @@ listed-ascends next (suc n) m = ascending-append (listed next n m) (row (next n)
 pub find-each : (p : Edge → Bool) (es : List Edge) (s y t : ℕ) → each p es ≡ true → target es s y ≡ some t → p (record { source = s; label = y; target = t }) ≡ true
 unfolding target each
 find-each p [] s y t h e = let z : _≡_ {A = ℕ} 0 1 = cc in absurd (omega arith)
-find-each p (d ∷ es) s y t h e = test (eqb (d .source) s && eqb (d .label) y)
+find-each p (d ∷ es) s y t h e = cases-of (eqb (d .source) s && eqb (d .label) y)
     (λ q. let o : _≡_ {A = Option ℕ} (some (d .target)) (some t) = rw (q, target) at e in
     let r = same² (d .source) s (d .label) y q in
     let c : d .target ≡ t = cc in

@@ -7,7 +7,7 @@ use native.Mathlib.Omega.{arith}
 use lib.Dec.{eqb, ltb}
 use borrow.Author.Tests.{eqb-true, eq-eqb, ltb-true, ltb-false}
 use Rattle.meaning.specs.Search.{least, count, at}
-use Rattle.meaning.specs.Cases.{test, and-intro, and-left, and-right}
+use Rattle.meaning.specs.Cases.{cases-of, and-intro, and-left, and-right}
 use Rattle.meaning.specs.SearchLaws.{count-mono, least-ok, least-of, at-tab, count-max, count-step}
 use Rattle.meaning.specs.Classes.{Task, Classes, initial, parted, first, split, round, chosen, begin, cut, run, reduction, named, classes}
 use Rattle.meaning.specs.ClassesLaws.{Named, split-out, split-live, split-class, split-named, split-all, name-own, split-grows}
@@ -65,7 +65,7 @@ module _ (T : Task) (fair : Fair T) where
 
   -- a state in a class takes part
   initial-live : (s : ℕ) → s < n → at (initial T) s < n → T .live s ≡ true
-  initial-live s h l = test (T .live s) (λ q. q) (λ q. absurd (omega (arith, fair .small, initial-out s h q)))
+  initial-live s h l = cases-of (T .live s) (λ q. q) (λ q. absurd (omega (arith, fair .small, initial-out s h q)))
 
   pub initial-good : Good T (initial T)
   initial-good = record {
@@ -124,7 +124,7 @@ module _ (T : Task) (fair : Fair T) where
   -- no more classes than states that take part
   pub classes-live : (P : List ℕ) → Good T P → classes (T .size) P ≤ count (T .live) (T .size)
   unfolding classes
-  classes-live P g = count-mono (named P) (T .live) n (λ t h e. test (T .live t) (λ q. q)
+  classes-live P g = count-mono (named P) (T .live) n (λ t h e. cases-of (T .live t) (λ q. q)
       (λ q. absurd (omega (arith, fair .small, g .out t h q, eqb-true (at P t) t e))))
 
   -- ---- the run
@@ -133,7 +133,7 @@ module _ (T : Task) (fair : Fair T) where
   pub run-keeps : (Inv : Classes → Type 0) → ((Q : Classes) → chosen T (Q .names) < T .size → Inv Q → Inv (cut T Q (chosen T (Q .names)))) → (f : ℕ) (Q : Classes) → Inv Q → Inv (run f T Q)
   unfolding run
   run-keeps Inv step zero Q i = i
-  run-keeps Inv step (suc f) Q i = test (ltb (chosen T (Q .names)) n)
+  run-keeps Inv step (suc f) Q i = cases-of (ltb (chosen T (Q .names)) n)
       (λ q. rw (q, run) (run-keeps Inv step f (cut T Q (chosen T (Q .names))) (step Q (ltb-true _ _ q) i)))
       (λ q. rw (q, run) i)
 
@@ -149,7 +149,7 @@ module _ (T : Task) (fair : Fair T) where
   pub run-ends : (f : ℕ) (Q : Classes) → Good T (Q .names) → T .size < f + classes (T .size) (Q .names) → T .size ≤ chosen T (run f T Q .names)
   unfolding run cut
   run-ends zero Q g h = absurd (omega (arith, classes-max (Q .names)))
-  run-ends (suc f) Q g h = test (ltb (chosen T (Q .names)) n)
+  run-ends (suc f) Q g h = cases-of (ltb (chosen T (Q .names)) n)
       (λ q. let l = ltb-true _ _ q in
       let e = parted-chosen (Q .names) l in
       rw (q, run) (run-ends f (cut T Q (chosen T (Q .names))) (round-good (Q .names) g (chosen T (Q .names)) l e)

@@ -10,47 +10,47 @@ use lib.ListN.{length, take, set}
 use lib.Seq.{take-suc-set}
 use native.Mathlib.Numerals.{add-one}
 use borrow.Author.Tests.{eqb-true, eqb-false, ltb-true, ltb-false}
-use Rattle.meaning.specs.Cases.{test, no-both, or-right}
+use Rattle.meaning.specs.Cases.{cases-of, no-both, or-right}
 use Rattle.meaning.specs.Search.{any, least, count, tab, at, bit}
 
 -- any
 pub any-intro : (p : ℕ → Bool) (n i : ℕ) → i < n → p i ≡ true → any p n ≡ true
 unfolding any
 any-intro p zero i h e = absurd (not-suc-le-zero h)
-any-intro p (suc n) i h e = test (eqb i n)
+any-intro p (suc n) i h e = cases-of (eqb i n)
     (λ q. rw (← eqb-true i n q, e))
     (λ q. let w : i < n = omega (arith, eqb-false i n q) in or-right (p n) (any-intro p n i w e))
 
 pub any-elim : (p : ℕ → Bool) (n : ℕ) → any p n ≡ true → (i : ℕ) × (i < n) × (p i ≡ true)
 unfolding any
 any-elim p zero e = no-both {b = false} e refl
-any-elim p (suc n) e = test (p n)
+any-elim p (suc n) e = cases-of (p n)
     (λ q. (n, omega arith, q))
     (λ q. let r = any-elim p n (rw q at e) in (r .0, omega (arith, r .1), r .2))
 
 pub any-none : (p : ℕ → Bool) (n i : ℕ) → i < n → any p n ≡ false → p i ≡ false
-any-none p n i h e = test (p i) (λ q. no-both (any-intro p n i h q) e) (λ q. q)
+any-none p n i h e = cases-of (p i) (λ q. no-both (any-intro p n i h q) e) (λ q. q)
 
 -- least
 pub least-le : (p : ℕ → Bool) (n i : ℕ) → p i ≡ true → least p n ≤ i
 unfolding least
 least-le p zero i e = omega arith
 least-le p (suc n) zero e = rw (e, least) (omega arith)
-least-le p (suc n) (suc i) e = test (p zero)
+least-le p (suc n) (suc i) e = cases-of (p zero)
     (λ q. rw (q, least) (omega arith))
     (λ q. rw (q, least) (let w : least (λ j. p (suc j)) n ≤ i = least-le (λ j. p (suc j)) n i e in omega arith))
 
 pub least-max : (p : ℕ → Bool) (n : ℕ) → least p n ≤ n
 unfolding least
 least-max p zero = omega arith
-least-max p (suc n) = test (p zero)
+least-max p (suc n) = cases-of (p zero)
     (λ q. rw (q, least) (omega arith))
     (λ q. rw (q, least) (let w = least-max (λ j. p (suc j)) n in omega arith))
 
 pub least-ok : (p : ℕ → Bool) (n : ℕ) → least p n < n → p (least p n) ≡ true
 unfolding least
 least-ok p zero h = absurd (not-suc-le-zero h)
-least-ok p (suc n) h = test (p zero)
+least-ok p (suc n) h = cases-of (p zero)
     (λ q. rw (q, least) q)
     (λ q. rw (q, least) (least-ok (λ j. p (suc j)) n (let w = rw (q, least) at h in omega arith)))
 
@@ -59,7 +59,7 @@ pub least-of : (p : ℕ → Bool) (n i : ℕ) → i < n → p i ≡ true → (le
 least-of p n i h e = let w = least-le p n i e in (w, least-ok p n (omega arith))
 
 pub least-none : (p : ℕ → Bool) (n i : ℕ) → n ≤ least p n → i < n → p i ≡ false
-least-none p n i g h = test (p i) (λ q. absurd (let w = least-le p n i q in omega arith)) (λ q. q)
+least-none p n i g h = cases-of (p i) (λ q. absurd (let w = least-le p n i q in omega arith)) (λ q. q)
 
 -- tab
 pub at-tab : (n : ℕ) (f : ℕ → ℕ) (i : ℕ) → i < n → at (tab n f) i ≡ f i
@@ -77,7 +77,7 @@ length-tab (suc n) f = ap suc (length-tab n (λ j. f (suc j)))
 pub count-max : (p : ℕ → Bool) (n : ℕ) → count p n ≤ n
 unfolding count
 count-max p zero = omega arith
-count-max p (suc n) = test (p n)
+count-max p (suc n) = cases-of (p n)
     (λ q. rw q (omega (arith, count-max p n)))
     (λ q. rw q (omega (arith, count-max p n)))
 
@@ -86,24 +86,24 @@ unfolding count
 count-mono p q zero h = omega arith
 count-mono p q (suc n) h =
     let w = count-mono p q n (λ i l. h i (omega arith)) in
-    test (p n)
+    cases-of (p n)
     (λ e. rw (e, h n (omega arith) e) (omega arith))
     (λ e. rw e (omega arith))
 
 pub count-more : (p q : ℕ → Bool) (n : ℕ) → ((i : ℕ) → i < n → p i ≡ true → q i ≡ true) → (j : ℕ) → j < n → p j ≡ false → q j ≡ true → count p n < count q n
 unfolding count
 count-more p q zero h j l e f = absurd (not-suc-le-zero l)
-count-more p q (suc n) h j l e f = test (eqb j n)
+count-more p q (suc n) h j l e f = cases-of (eqb j n)
     (λ g. let g′ = eqb-true j n g in rw (← g′, e, f) (let w = count-mono p q j (λ i k. h i (omega arith)) in omega arith))
     (λ g. let w = count-more p q n (λ i k. h i (omega arith)) j (omega (arith, eqb-false j n g)) e f in
-    test (p n)
+    cases-of (p n)
     (λ a. rw (a, h n (omega arith) a) (omega arith))
     (λ a. rw a (omega arith)))
 
 pub count-step : (p : ℕ → Bool) (a b : ℕ) → a < b → p a ≡ true → count p a < count p b
 unfolding count
 count-step p a zero h e = absurd (not-suc-le-zero h)
-count-step p a (suc b) h e = test (eqb a b)
+count-step p a (suc b) h e = cases-of (eqb a b)
     (λ g. rw (← eqb-true a b g, e) (omega arith))
     (λ g. omega (arith, count-step p a b (omega (arith, eqb-false a b g)) e))
 
@@ -117,7 +117,7 @@ any-cong p q (suc n) h = ap₂ _||_ (h n (omega arith)) (any-cong p q n (λ i l.
 pub least-cong : (p q : ℕ → Bool) (n : ℕ) → ((i : ℕ) → i < n → p i ≡ q i) → least p n ≡ least q n
 unfolding least
 least-cong p q zero h = refl
-least-cong p q (suc n) h = test (q zero)
+least-cong p q (suc n) h = cases-of (q zero)
     (λ e. let e′ : p zero ≡ true = h zero (omega arith) ∙ e in rw (e, e′, least))
     (λ e. let e′ : p zero ≡ false = h zero (omega arith) ∙ e in
     rw (e, e′, least) (ap suc (least-cong (λ i. p (suc i)) (λ i. q (suc i)) n (λ i l. h (suc i) (omega arith)))))
@@ -128,23 +128,23 @@ tab-cong zero f g h = refl
 tab-cong (suc n) f g h = ap₂ {C = List ℕ} (λ x xs. x ∷ xs) (h zero (omega arith)) (tab-cong n (λ i. f (suc i)) (λ i. g (suc i)) (λ i l. h (suc i) (omega arith)))
 
 pub least-below : (p : ℕ → Bool) (n i : ℕ) → i < least p n → p i ≡ false
-least-below p n i h = test (p i) (λ q. absurd (let w = least-le p n i q in omega arith)) (λ q. q)
+least-below p n i h = cases-of (p i) (λ q. absurd (let w = least-le p n i q in omega arith)) (λ q. q)
 
 pub least-is : (p : ℕ → Bool) (n c : ℕ) → c < n → p c ≡ true → ((i : ℕ) → i < c → p i ≡ false) → least p n ≡ c
 least-is p n c h e f =
     let r = least-of p n c h e in
-    test (ltb (least p n) c)
+    cases-of (ltb (least p n) c)
     (λ q. no-both (r .1) (f (least p n) (ltb-true _ _ q)))
     (λ q. omega (arith, r .0, ltb-false (least p n) c q))
 
 pub least-empty : (p : ℕ → Bool) (n : ℕ) → ((i : ℕ) → i < n → p i ≡ false) → n ≤ least p n
-least-empty p n f = test (ltb (least p n) n)
+least-empty p n f = cases-of (ltb (least p n) n)
     (λ q. let l = ltb-true _ _ q in no-both (least-ok p n l) (f (least p n) l))
     (λ q. ltb-false _ _ q)
 
 -- for a loop that searches upward: its invariant is `i ≤ least p n`
 pub least-next : (p : ℕ → Bool) (n i : ℕ) → i ≤ least p n → i < n → p i ≡ false → i + 1 ≤ least p n
-least-next p n i h l e = test (eqb i (least p n))
+least-next p n i h l e = cases-of (eqb i (least p n))
     (λ q. let q′ = eqb-true i (least p n) q in no-both (rw (← q′) at (least-ok p n (omega arith))) e)
     (λ q. omega (arith, eqb-false i (least p n) q))
 

@@ -1,16 +1,17 @@
 -- Laws of the edge of a state at a label (one edge more at the end, and where no edge stands yet), and of a ride, one observation
 -- further.
 -- Assumes nothing.
-use mathlib.Core.Path.{_≡_, refl, _∙_}
+use mathlib.Core.Path.{_≡_, refl, ap, _∙_}
 use mathlib.Core.Bool.{Bool, true, false, _&&_, _||_}
 use mathlib.Core.Logic.{_⊎_, inl, inr}
 use mathlib.Core.List.{List, [], _∷_, _++_}
 use mathlib.Core.Option.{Option, none, some}
-use Prim.Native.Nat.{ℕ, _<_}
+use Prim.Native.Nat.{ℕ, suc, _<_}
 use native.Mathlib.Omega.{arith}
 use lib.Dec.{eqb, ltb}
+use lib.ListN.{length}
 use borrow.Author.Tests.{eq-eqb, ne-eqb, lt-ltb, ltb-true, eqb-true}
-use Rattle.meaning.specs.Cases.{clash, and-left, and-right}
+use Rattle.meaning.specs.Cases.{impossible, and-left, and-right}
 use Rattle.meaning.specs.Pick.{pick}
 use Rattle.meaning.specs.Filter.{Edge, comesBefore, leads, ascending}
 use Rattle.meaning.specs.Trace.{target, ridden, later, halted}
@@ -28,7 +29,7 @@ target-snoc (f ∷ fs) e s y h = go (stands f s y) h (target-snoc fs e s y)
     go : (b : Bool) → pick b (some (f .target)) (target fs s y) ≡ none
         → (target fs s y ≡ none → target (fs ++ (e ∷ [])) s y ≡ pick (stands e s y) (some (e .target)) none)
         → pick b (some (f .target)) (target (fs ++ (e ∷ [])) s y) ≡ pick (stands e s y) (some (e .target)) none
-    go true k r = clash cc
+    go true k r = impossible cc
     go false k r = r k
 
 pub target-before : (es : List Edge) (e : Edge) (s y : ℕ) → stands e s y ≡ false → target (es ++ (e ∷ [])) s y ≡ target es s y
@@ -110,3 +111,39 @@ module _ (next : ℕ → ℕ → Option ℕ) where
   pub halted-stop : (s y : ℕ) (ys : List ℕ) → next s y ≡ none → halted next s (y ∷ ys) ≡ some 0
   unfolding halted
   halted-stop s y ys h = rw (h, halted)
+
+-- ---- how many colours are shown
+
+-- one more than the observations that are taken
+abbrev pub shownCount : Option ℕ → ℕ → ℕ
+shownCount none k = suc k
+shownCount (some i) k = suc i
+
+count-later : (o : Option ℕ) (k : ℕ) → suc (shownCount o k) ≡ shownCount (later o) (suc k)
+count-later none k = refl
+count-later (some i) k = refl
+
+pub ridden-length : (next : ℕ → ℕ → Option ℕ) (hue : ℕ → ℕ) (s : ℕ) (ys : List ℕ) → length (ridden next hue s ys) ≡ shownCount (halted next s ys) (length ys)
+unfolding ridden halted
+ridden-length next hue s [] = refl
+ridden-length next hue s (y ∷ ys) = go (next s y) (λ t. ridden-length next hue t ys)
+  where
+    go : (o : Option ℕ) → ((t : ℕ) → length (ridden next hue t ys) ≡ shownCount (halted next t ys) (length ys)) →
+        length (hue s ∷ elim o [ none ↦ [] | some t ↦ ridden next hue t ys ]) ≡ shownCount (elim o [ none ↦ some 0 | some t ↦ later (halted next t ys) ]) (suc (length ys))
+    go none h = refl
+    go (some t) h = ap suc (h t) ∙ count-later (halted next t ys) (length ys)
+
+-- one further is within one more
+pub later-within : (o : Option ℕ) (k i : ℕ) → ((j : ℕ) → o ≡ some j → j < k) → later o ≡ some i → i < suc k
+later-within none k i h e = impossible cc
+later-within (some j) k i h e = let z : suc j ≡ i = cc in omega (arith, h j refl)
+
+-- a ride stops at an observation
+pub halted-within : (next : ℕ → ℕ → Option ℕ) (s : ℕ) (ys : List ℕ) (i : ℕ) → halted next s ys ≡ some i → i < length ys
+unfolding halted
+halted-within next s [] i e = impossible cc
+halted-within next s (y ∷ ys) i e = go (next s y) (λ t. halted-within next t ys) e
+  where
+    go : (o : Option ℕ) → ((t j : ℕ) → halted next t ys ≡ some j → j < length ys) → elim o [ none ↦ some 0 | some t ↦ later (halted next t ys) ] ≡ some i → i < suc (length ys)
+    go none h e = let z : 0 ≡ i = cc in omega arith
+    go (some t) h e = later-within (halted next t ys) (length ys) i (h t) e

@@ -9,7 +9,7 @@ use native.Mathlib.Omega.{arith}
 use lib.Dec.{eqb, ltb}
 use borrow.Author.Tests.{eqb-true, eqb-false, eq-eqb, not-false, ltb-true, ltb-false}
 use Rattle.meaning.specs.Search.{least, count, at}
-use Rattle.meaning.specs.Cases.{test, and-intro, and-left, and-right, no-both}
+use Rattle.meaning.specs.Cases.{cases-of, and-intro, and-left, and-right, no-both}
 use Rattle.meaning.specs.SearchLaws.{any-none, least-of, at-tab, count-step}
 use Rattle.meaning.specs.TraceLaws.{ridden-on, halted-on, halted-stop}
 use Rattle.meaning.specs.Classes.{chosen, named, classes, number}
@@ -38,9 +38,9 @@ module _ (n : ℕ) (P : List ℕ) (g : Named n P) where
   -- one number, one class
   pub number-one : (s t : ℕ) → In n P s → In n P t → number P s ≡ number P t → at P s ≡ at P t
   unfolding number
-  number-one s t hs ht e = test (ltb (at P s) (at P t))
+  number-one s t hs ht e = cases-of (ltb (at P s) (at P t))
       (λ q. absurd (omega (arith, e, count-step (named P) (at P s) (at P t) (ltb-true _ _ q) (name-named s hs))))
-      (λ q. test (ltb (at P t) (at P s))
+      (λ q. cases-of (ltb (at P t) (at P s))
       (λ r. absurd (omega (arith, e, count-step (named P) (at P t) (at P s) (ltb-true _ _ r) (name-named t ht))))
       (λ r. omega (arith, ltb-false (at P s) (at P t) q, ltb-false (at P t) (at P s) r)))
 
@@ -65,10 +65,10 @@ module _ (n : ℕ) (P : List ℕ) (g : Named n P) where
 pub nth : (p : ℕ → Bool) (n k : ℕ) → k < count p n → (t : ℕ) × (t < n) × (p t ≡ true) × (count p t ≡ k)
 unfolding count
 nth p zero k h = absurd (not-suc-le-zero h)
-nth p (suc n) k h = test (ltb k (count p n))
+nth p (suc n) k h = cases-of (ltb k (count p n))
     (λ q. let r = nth p n k (ltb-true _ _ q) in (r .0, omega (arith, r .1), r .2, r .3))
     (λ q. let l = ltb-false k (count p n) q in
-    test (p n)
+    cases-of (p n)
     (λ e. (n, omega arith, e, (let w = rw e at h in omega arith)))
     (λ e. absurd (let w = rw e at h in omega arith)))
 
@@ -118,7 +118,7 @@ module _ (F : Filter) (fits : Fits F) (P : List ℕ) (g : Good (task F) P)
       eqb-true (at P a) (at P b) (not-false _ (rw (ea, eb) at q))
 
   class-of : (s t y a b : ℕ) → s ≤ t → In (states F) P t → at P s ≡ at P t → edge F s y ≡ some a → edge F t y ≡ some b → at P a ≡ at P b
-  class-of s t y a b l h e ea eb = test (eqb s t)
+  class-of s t y a b l h e ea eb = cases-of (eqb s t)
       (λ q. let q′ = eqb-true s t q in ap (at P) (some-inj (sym ea ∙ ap (λ u. edge F u y) q′ ∙ eb)))
       (λ q. agree s t y a b (omega (arith, eqb-false s t q)) h e ea eb)
 
@@ -134,9 +134,9 @@ module _ (F : Filter) (fits : Fits F) (P : List ℕ) (g : Good (task F) P)
   edge-kept s y t h e =
       let n = states F in
       let k = number P s in
-      let test′ : ℕ → Bool = λ u. eqb (at P u) (at P s) && has (edge F u y) in
-      let u = least test′ n in
-      let r = least-of test′ n s (h .state) (and-intro (eq-eqb (at P s) (at P s) refl) (rw e)) in
+      let cases-of′ : ℕ → Bool = λ u. eqb (at P u) (at P s) && has (edge F u y) in
+      let u = least cases-of′ n in
+      let r = least-of cases-of′ n s (h .state) (and-intro (eq-eqb (at P s) (at P s) refl) (rw e)) in
       let cls : at P u ≡ at P s = eqb-true (at P u) (at P s) (and-left (eqb (at P u) (at P s)) (has (edge F u y)) (r .1)) in
       let u-has : has (edge F u y) ≡ true = and-right (eqb (at P u) (at P s)) (has (edge F u y)) (r .1) in
       find-listed k y (edge′ (edge F) (states F) P) (classes n P) (F .labels) (number-lt n P (g .right) s h) (fits .within s y t e .1)

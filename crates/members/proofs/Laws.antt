@@ -7,7 +7,7 @@ use lib.Dec.{eqb, ltb}
 use lib.ListN.{length, set, take, replicate, length-set, length-replicate, getD-replicate}
 use lib.Seq.{getD-set-same, getD-set-other}
 use borrow.Author.Tests.{eqb-true, eqb-false, ltb-true, ltb-false}
-use Rattle.meaning.specs.Cases.{test}
+use Rattle.meaning.specs.Cases.{cases-of}
 use Rattle.meaning.specs.Search.{at}
 use Rattle.meaning.specs.SearchLaws.{at-take}
 use Rattle.meaning.specs.ClassesLaws.{Named}
@@ -39,9 +39,9 @@ hop P n next r c a b here h k = rw k record {
 
 -- what holds below a, at a and between a and b holds below b
 pub through : (F : ℕ → Type 0) (a b : ℕ) → ((x : ℕ) → x < a → F x) → F a → ((x : ℕ) → a < x → x < b → F x) → (x : ℕ) → x < b → F x
-through F a b low here gap x h = test (ltb x a)
+through F a b low here gap x h = cases-of (ltb x a)
     (λ q. low x (ltb-true x a q))
-    (λ q. test (eqb x a)
+    (λ q. cases-of (eqb x a)
     (λ z. rw (eqb-true x a z) here)
     (λ z. gap x (omega (arith, ltb-false x a q, eqb-false x a z)) h))
 
@@ -108,11 +108,11 @@ module _ (P : List ℕ) (n : ℕ) (next nearest : List ℕ) (s c : ℕ) (r : Cha
 
   -- a state is s or behind it
   at-or-behind : (F : ℕ → Type 0) (t : ℕ) → s ≤ t → F s → ((t ≡ s → ⊥) → s + 1 ≤ t → F t) → F t
-  at-or-behind F t k f g = test (eqb t s) (λ q. rw (eqb-true t s q) f) (λ q. let z = eqb-false t s q in g z (omega arith))
+  at-or-behind F t k f g = cases-of (eqb t s) (λ q. rw (eqb-true t s q) f) (λ q. let z = eqb-false t s q in g z (omega arith))
 
   -- a name is c or another
   this-or-other : (F : ℕ → Type 0) (d : ℕ) → F c → ((d ≡ c → ⊥) → F d) → F d
-  this-or-other F d f g = test (eqb d c) (λ q. rw (eqb-true d c q) f) (λ q. g (eqb-false d c q))
+  this-or-other F d f g = cases-of (eqb d c) (λ q. rw (eqb-true d c q) f) (λ q. g (eqb-false d c q))
 
   pub chained-more : Chained P n next′ nearest′ s
   chained-more = record {
@@ -131,7 +131,7 @@ module _ (P : List ℕ) (n : ℕ) (next nearest : List ℕ) (s c : ℕ) (r : Cha
         (λ m b i q. r .first c u l (omega arith) (rw here at i) (q ∙ sym e))
         (λ z b m a i. r .between t u b m a (rw (there t z) at i));
     from = λ d k. this-or-other (λ d. s ≤ at nearest′ d) d (omega (arith, near)) (λ z. omega (arith, far d z, r .from d k));
-    until = λ d k. test (ltb s n)
+    until = λ d k. cases-of (ltb s n)
         (λ q. this-or-other (λ d. at nearest′ d ≤ n) d (omega (arith, near, ltb-true s n q)) (λ z. rw (far d z) (r .until d k)))
         (λ q. absurd (omega (arith, ltb-false s n q, r .from c l, r .until c l)));
     named = λ d k. this-or-other (λ d. at nearest′ d < n → at P (at nearest′ d) ≡ d) d

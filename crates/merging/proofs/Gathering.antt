@@ -12,7 +12,7 @@ use borrow.Author.Tests.{eqb-true, eqb-false, eq-eqb, ne-eqb, ltb-true, ltb-fals
 use Rattle.meaning.specs.Pick.{pick}
 use Rattle.meaning.specs.Search.{least, at}
 use Rattle.meaning.specs.SearchLaws.{least-ok, least-is, least-below, least-none, least-empty, least-max, at-take}
-use Rattle.meaning.specs.Cases.{test, and-left, and-right, no-both}
+use Rattle.meaning.specs.Cases.{cases-of, and-left, and-right, no-both}
 use Rattle.meaning.specs.Reduced.{has}
 use Rattle.table.specs.Table.{Table, look, SameRows, or, given, Gave}
 use Rattle.numbering.specs.Names.{Names}
@@ -65,7 +65,7 @@ module _ (next : ℕ → ℕ → Option ℕ) (P : List ℕ) where
     first : (k : ℕ) → First k
     unfolding seen
     first zero = record { found = λ l. absurd (omega arith); nobody = λ l. refl }
-    first (suc k) = test (ltb (least member k) k)
+    first (suc k) = cases-of (ltb (least member k) k)
         (λ q. let l = ltb-true (least member k) k q in
         let ok = least-ok member k l in
         let j = least member k in
@@ -78,7 +78,7 @@ module _ (next : ℕ → ℕ → Option ℕ) (P : List ℕ) where
         })
         (λ q. let g = ltb-false (least member k) k q in
         let start : seen c y (suc k) ≡ brings c y k = ap (λ (o : Option ℕ). or o (brings c y k)) (first k .nobody g) in
-        test (member k)
+        cases-of (member k)
         (λ e. let same : least member (suc k) ≡ k = least-is member (suc k) k (omega arith) e (λ i h. least-none member k i g h) in
         record {
           found = λ _. start ∙ brings-in c y k (eqb-true _ _ (and-left (eqb (at P k) c) (has (next k y)) e)) ∙ ap (λ (i : ℕ). next i y) (sym same);
@@ -87,17 +87,17 @@ module _ (next : ℕ → ℕ → Option ℕ) (P : List ℕ) where
         (λ e. record {
           found = λ h. absurd (omega (
             arith,
-            least-empty member (suc k) (λ i l. test (eqb i k)
+            least-empty member (suc k) (λ i l. cases-of (eqb i k)
                 (λ z. subst (λ (j : ℕ). member j ≡ false) (sym (eqb-true i k z)) e)
                 (λ z. least-none member k i g (omega (arith, eqb-false i k z)))),
           ));
-          nobody = λ _. start ∙ test (eqb (at P k) c)
+          nobody = λ _. start ∙ cases-of (eqb (at P k) c)
               (λ z. brings-in c y k (eqb-true _ _ z) ∙ has-none (next k y) (rw z at e))
               (λ z. brings-out c y k (eqb-false _ _ z));
         }))
 
     pub seen-first : (n : ℕ) → next n y ≡ none → seen c y n ≡ next (least member n) y
-    seen-first n z = test (ltb (least member n) n)
+    seen-first n z = cases-of (ltb (least member n) n)
         (λ q. first n .found (ltb-true _ _ q))
         (λ q. let g = ltb-false (least member n) n q in
         let all : least member n ≡ n = omega (arith, g, least-max member n) in
@@ -129,7 +129,7 @@ module _ (T₀ T : Table) (names : List ℕ) (n : ℕ) (ok : Names n names) (s :
       let own : at Q s ≡ s = at-take names n s h ∙ e in
       let first : (t : ℕ) → t < s → at Q t ≡ s → ⊥ = λ t u v. omega (arith, name-low names n ok t (omega arith), at-take names n t (omega arith)) in
       rw (add-one s) (record {
-        done = λ c y l o. test (eqb c s)
+        done = λ c y l o. cases-of (eqb c s)
             (λ z. let z′ = eqb-true c s z in
             subst (λ (i : ℕ). look T i y ≡ seen next Q i y (suc s)) (sym z′)
             (r .later s y (omega arith) ∙ sym (rw (brings-in next Q s y s own, seen-none next Q s y s first))))
@@ -147,7 +147,7 @@ module _ (T₀ T : Table) (names : List ℕ) (n : ℕ) (ok : Names n names) (s :
       let at′ : (c y : ℕ) → look T′ c y ≡ given (look T) s d c y = λ c y. ap (λ (f : ℕ → ℕ → Option ℕ). f c y) (gave .edges) in
       let apart : (c y : ℕ) → (c ≡ d → ⊥) → look T′ c y ≡ look T c y = λ c y z. at′ c y ∙ rw (ne-eqb c d z) in
       rw (add-one s) (record {
-        done = λ c y k o. test (eqb c d)
+        done = λ c y k o. cases-of (eqb c d)
             (λ z. let z′ = eqb-true c d z in
             subst (λ (i : ℕ). look T′ i y ≡ seen next Q i y (suc s)) (sym z′)
             (at′ d y ∙ rw (eq-eqb d d refl)

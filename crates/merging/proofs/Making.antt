@@ -101,7 +101,7 @@ module _ {p : Profile} {T₀ : Table} {colours names : List ℕ} {r : Reading} {
         labels-long = omega (arith, below (ready .order-is) i h, can .rows .labels-long, ready .gathered .rows .labels-same);
       };
       label = λ i y t h e. inside i y t h e .0;
-      listed = λ i y t h e. omega (arith, inside i y t h e .1, ready .long);
+      in-list = λ i y t h e. omega (arith, inside i y t h e .1, ready .long);
       target = λ i y t h e.
           let l = inside i y t h e .1 in
           omega (arith, ready .numbers t l, number-lt n P (can .named .right) t (seat names n (can .named) t l), fit-classes);

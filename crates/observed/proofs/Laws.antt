@@ -13,7 +13,7 @@ use lib.Seq.{drop-cons}
 use borrow.Author.Tests.{le-leb, lt-leb, leb-false, lt-ltb, le-ltb, ltb-true, ltb-false}
 use Rattle.meaning.specs.Pick.{pick}
 use Rattle.meaning.specs.Trace.{later}
-use Rattle.meaning.specs.Cases.{clash, test}
+use Rattle.meaning.specs.Cases.{impossible, cases-of}
 use Rattle.observed.specs.Observed.{firstOutside, larger, largest}
 
 -- ---- an index further on
@@ -56,23 +56,23 @@ all-inside m (y ∷ ys) z h i = go (leb m y) refl h i (all-inside m ys z)
   where
     none-later : (o : Option ℕ) → later o ≡ none → o ≡ none
     none-later none k = refl
-    none-later (some j) k = clash cc
+    none-later (some j) k = impossible cc
 
     go : (b : Bool) → leb m y ≡ b → pick b (some 0) (later (firstOutside m ys)) ≡ none → (i : ℕ) → (firstOutside m ys ≡ none → (i : ℕ) → getD ys i 0 < m) → getD (y ∷ ys) i 0 < m
-    go true e k i r = clash cc
+    go true e k i r = impossible cc
     go false e k zero r = leb-false m y e
     go false e k (suc i) r = r (none-later (firstOutside m ys) k) i
 
 -- ---- the largest
 
 larger-most : (x y z : ℕ) → larger (larger x y) z ≡ larger x (larger y z)
-larger-most x y z = test (ltb x y)
-    (λ p. test (ltb y z) (λ q. rw (p, q, lt-ltb x z (omega (arith, ltb-true x y p, ltb-true y z q)))) (λ q. rw (p, q, p)))
-    (λ p. test (ltb y z) (λ q. rw (p, q)) (λ q. rw (p, q, p, le-ltb x z (omega (arith, ltb-false x y p, ltb-false y z q)))))
+larger-most x y z = cases-of (ltb x y)
+    (λ p. cases-of (ltb y z) (λ q. rw (p, q, lt-ltb x z (omega (arith, ltb-true x y p, ltb-true y z q)))) (λ q. rw (p, q, p)))
+    (λ p. cases-of (ltb y z) (λ q. rw (p, q)) (λ q. rw (p, q, p, le-ltb x z (omega (arith, ltb-false x y p, ltb-false y z q)))))
 
 -- the largest is that of what was seen and of what is left
 pub largest-start : (ys : List ℕ) → largest ys ≡ larger 0 (largest (drop 0 ys))
-largest-start ys = test (ltb 0 (largest ys)) (λ q. rw q) (λ q. rw q (omega (arith, ltb-false 0 (largest ys) q)))
+largest-start ys = cases-of (ltb 0 (largest ys)) (λ q. rw q) (λ q. rw q (omega (arith, ltb-false 0 (largest ys) q)))
 
 pub largest-next : (ys : List ℕ) (i most : ℕ) → i < length ys → larger most (largest (drop i ys)) ≡ larger (larger most (getD ys i 0)) (largest (drop (i + 1) ys))
 unfolding largest
@@ -86,6 +86,6 @@ largest-end ys i most l = rw (drop-of-length-le ys {i = i} l, le-ltb most 0 (ome
 pub largest-inside : (m : ℕ) (ys : List ℕ) → largest ys < m → firstOutside m ys ≡ none
 unfolding largest firstOutside
 largest-inside m [] h = refl
-largest-inside m (y ∷ ys) h = test (ltb y (largest ys))
+largest-inside m (y ∷ ys) h = cases-of (ltb y (largest ys))
     (λ q. let l : largest ys < m = rw q at h in rw (lt-leb m y (omega (arith, ltb-true y (largest ys) q)), largest-inside m ys l))
     (λ q. let l : y < m = rw q at h in rw (lt-leb m y l, largest-inside m ys (omega (arith, ltb-false y (largest ys) q))))

@@ -12,7 +12,7 @@ use Rattle.refusals.specs.declared.Refusal.{Refusal}
 use Rattle.refusals.specs.Refusals.{accepted, refusalOutcome, laid}
 use Rattle.refusals.proofs.Laws.{promise-refused, promise-accepted}
 use Rattle.layout.specs.declared.Profile.{Profile}
-use Rattle.layout.specs.Layout.{flat, threes, listed, written}
+use Rattle.layout.specs.Layout.{flat, threes, fromLists, written}
 use Rattle.layout.specs.Code.{Usable}
 use Rattle.layout.proofs.EdgeLists.{flat-threes, length-threes}
 use Rattle.files.specs.Tests.{Written, write-written}
@@ -22,9 +22,9 @@ use Rattle.packing.specs.Promise.{packedOutcome, packOf, PackPromise}
 
 module _ (P : Profile) (ok : Usable P) where
   module _ (cs es : List ℕ) (m st room : ℕ) (vs : List ℕ) (h : packOf P cs es m st room ≡ accepted vs) where
-    pub pack-passed : Written P (listed cs es m st) (eqb (length es % 3) 0) room vs
+    pub pack-passed : Written P (fromLists cs es m st) (eqb (length es % 3) 0) room vs
     unfolding packOf
-    pack-passed = write-written P (listed cs es m st) (eqb (length es % 3) 0) room vs h
+    pack-passed = write-written P (fromLists cs es m st) (eqb (length es % 3) 0) room vs h
 
     pub whole-edges : length es ≡ 3 * (length es / 3)
     whole-edges = omega (arith, eqb-true (length es % 3) 0 (pack-passed .is-whole))
@@ -42,5 +42,5 @@ pack-refused P cs es m st room r why h e = rw e (promise-refused _ why _ (sym h 
 
 pub pack-laid : (P : Profile) (cs es : List ℕ) (m st : ℕ) (room : List ℕ) (r : Packed) (n : ℕ) →
     packedOutcome r ≡ packOf P cs es m st (length room) → r ≡ packed.Accepted n →
-    PackPromise P cs es m st room (packed.Accepted n) (laid (written P (listed cs es m st)) room)
+    PackPromise P cs es m st room (packed.Accepted n) (laid (written P (fromLists cs es m st)) room)
 pack-laid P cs es m st room r n h e = promise-accepted _ _ _ (sym h ∙ ap packedOutcome e)

@@ -5,7 +5,7 @@ use borrow.Fn.Kinds.{endedOf}
 use denote.Ref.{now}
 use denote.Triple.Clauses.{AtExit}
 use mathlib.Core.Path.{_≡_, sym, ap, _∙_}
-use Rattle.meaning.specs.Cases.{clash}
+use Rattle.meaning.specs.Cases.{impossible}
 use Rattle.refusals.proofs.Laws.{refusal-one, promise-one}
 use Rattle.packing.specs.declared.Packed.{Packed}
 use Rattle.packing.specs.declared.Packed.the-variants as packed
@@ -17,8 +17,8 @@ use Rattle.packing.proofs.pack.Reads as pack-reads
 pub packed-one : (a b : Packed) → packedOutcome a ≡ packedOutcome b → a ≡ b
 packed-one (packed.Accepted m) (packed.Accepted n) e = ap packed.Accepted (cc e)
 packed-one (packed.Refused r) (packed.Refused s) e = ap packed.Refused (refusal-one r s e)
-packed-one (packed.Accepted m) (packed.Refused s) e = clash cc
-packed-one (packed.Refused r) (packed.Accepted n) e = clash cc
+packed-one (packed.Accepted m) (packed.Refused s) e = impossible cc
+packed-one (packed.Refused r) (packed.Accepted n) e = impossible cc
 
 pub pack-contract-one : (κs : Lfts 3) (a : ArgsD pack.signature κs) (r₁ r₂ : ResD pack.signature κs)
     (s₁ s₂ : AtExit (endedOf 3 pack-kinds.ps pack-kinds.r) κs) →

@@ -9,7 +9,7 @@ use lib.ListN.{length}
 use Rattle.pen.specs.Runs.{Fit}
 use Rattle.refusals.specs.Refusals.{Outcome, accepted, refusalOutcome, Lent, lent, Promise}
 use Rattle.layout.specs.declared.Profile.{Profile}
-use Rattle.layout.specs.Layout.{edgeWidths, listed, written}
+use Rattle.layout.specs.Layout.{edgeWidths, fromLists, written}
 use Rattle.layout.specs.Code.{Usable}
 use Rattle.files.specs.Files.{writeOf}
 use Rattle.packing.specs.declared.Packed.{Packed}
@@ -22,11 +22,11 @@ packedOutcome (packed.Refused r) = refusalOutcome r
 
 -- 14, 2, 3, the edges, 10; the edge list's length is a multiple of 3
 unfoldable pub packOf : Profile → List ℕ → List ℕ → ℕ → ℕ → ℕ → Outcome
-packOf P colours edges m start room = writeOf P (listed colours edges m start) (eqb (length edges % 3) 0) room
+packOf P colours edges m start room = writeOf P (fromLists colours edges m start) (eqb (length edges % 3) 0) room
 
--- What is written: the file of the filter listed.
+-- What is written: the file of the filter fromLists.
 abbrev pub packLent : Profile → List ℕ → List ℕ → ℕ → ℕ → List ℕ → List Lent
-packLent P colours edges m start room = lent (written P (listed colours edges m start)) room ∷ []
+packLent P colours edges m start room = lent (written P (fromLists colours edges m start)) room ∷ []
 
 -- Accepted: the room begins with the file, the rest is as found. Refused: the room is as found.
 abbrev pub PackPromise : Profile → List ℕ → List ℕ → ℕ → ℕ → List ℕ → Packed → List ℕ → Type 0

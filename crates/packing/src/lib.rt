@@ -11,7 +11,7 @@ ghost use Prim.Native.Nat.{_+_, _*_, _/_, _<_};
 ghost use lib.ListN.{length};
 ghost use Rattle.pen.specs.Runs.{putFields};
 ghost use Rattle.refusals.specs.Refusals.{accepted, firstOf, roomTest, laid};
-ghost use Rattle.layout.specs.Layout.{large, edgeWidths, threes, listed, lengthOf, written};
+ghost use Rattle.layout.specs.Layout.{large, edgeWidths, threes, fromLists, lengthOf, written};
 ghost use Rattle.layout.specs.Code.{Usable, Small, edgeOf, edgeIn};
 ghost use Rattle.edges.specs.Faults.{firstFault};
 ghost use Rattle.edges.specs.Walk.{faultOf};
@@ -140,9 +140,9 @@ fn all_below(limit: usize, values: &[u8]) -> bool
 fn write(p: Profile, colours: &[u8], edges: &[u8], m: usize, start: usize, room: &mut [u8])
     requires { ⌜ Usable p
         × (packOf p (now colours) (now edges) m start (length (now room))
-        ≡ accepted (lengthOf p (listed (now colours) (now edges) m start) ∷ [])) ⌝ }
+        ≡ accepted (lengthOf p (fromLists (now colours) (now edges) m start) ∷ [])) ⌝ }
     ensures { λ _. ⌜ now (room .exit)
-        ≡ laid (written p (listed (now (colours .entry)) (now (edges .entry)) m start)) (now (room .entry)) ⌝ }
+        ≡ laid (written p (fromLists (now (colours .entry)) (now (edges .entry)) m start)) (now (room .entry)) ⌝ }
 {
     let n = colours.len();
     let e = edges.len() / 3;
@@ -153,7 +153,7 @@ fn write(p: Profile, colours: &[u8], edges: &[u8], m: usize, start: usize, room:
 }
 
 // Edge i of a list, three bytes an edge.
-fn listed(edges: &[u8], i: usize) -> Edge
+fn edge_in(edges: &[u8], i: usize) -> Edge
     requires { ⌜ 3 * i + 2 < length (now edges) ⌝ }
     ensures { λ r. ⌜ (edgeOf r ≡ edgeIn (now (edges .entry)) (3 * i)) × Small r ⌝ }
 {
@@ -173,7 +173,7 @@ fn test_list(edges: &[u8], n: usize, m: usize) -> Verdict
     let mut last = 0;
     let mut i = 0;
     while i < e {
-        let edge = listed(edges, i);
+        let edge = edge_in(edges, i);
         let verdict = edges::test(n, m, i, last, edge);
         let Verdict::Faultless = verdict else {
             return verdict;
@@ -201,7 +201,7 @@ fn put_all(p: Profile, part: &mut [u8], bit: usize, edges: &[u8], e: usize)
     let mut pen = pen::begin(part, bit);
     let mut i = 0;
     while i < e {
-        pen = layout::edge::push(p, part, pen, listed(edges, i));
+        pen = layout::edge::push(p, part, pen, edge_in(edges, i));
         i += 1;
     }
     pen::finish(part, pen);

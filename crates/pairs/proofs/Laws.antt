@@ -8,7 +8,7 @@ use lib.Dec.{eqb, ltb}
 use lib.ListN.{take}
 use borrow.Author.Tests.{lt-ltb, le-ltb, eq-eqb, ne-eqb, ltb-true, ltb-false}
 use Rattle.meaning.specs.Pick.{pick}
-use Rattle.meaning.specs.Cases.{test, no-both, and-intro, and-left, and-right}
+use Rattle.meaning.specs.Cases.{cases-of, no-both, and-intro, and-left, and-right}
 use Rattle.meaning.specs.Search.{least, at}
 use Rattle.meaning.specs.SearchLaws.{any-intro, any-elim, any-cong, least-is, least-ok, least-none, least-empty, at-take}
 use Rattle.meaning.specs.Classes.{parted, first}
@@ -135,7 +135,7 @@ module _ (clashes : ℕ → ℕ → Bool) (P : List ℕ) (c : ℕ) where
 
     pub parted-none : Nothing ≡ foundOf n clashes P c → parted n clashes P c ≡ false
     unfolding foundOf
-    parted-none h = test (parted n clashes P c) (λ q. go (ltb lowest n) refl h q) (λ q. q)
+    parted-none h = cases-of (parted n clashes P c) (λ q. go (ltb lowest n) refl h q) (λ q. q)
       where
         go : (x : Bool) → ltb lowest n ≡ x → Nothing ≡ pick x (Pair lowest (least (against clashes P c lowest) n)) Nothing
             → parted n clashes P c ≡ true → parted n clashes P c ≡ false
@@ -185,6 +185,6 @@ parted-front n clashes P c = any-cong _ _ n
 -- a state that is not its own name names no class, and so parts none
 pub parted-own : (n : ℕ) (clashes : ℕ → ℕ → Bool) (P : List ℕ) → Named n (take n P) → (c : ℕ) → c < n → (at P c ≡ c → ⊥)
     → parted n clashes P c ≡ false
-parted-own n clashes P nm c h e = test (parted n clashes P c)
+parted-own n clashes P nm c h e = cases-of (parted n clashes P c)
     (λ q. absurd (e (sym (at-take P n c h) ∙ name-own n clashes (take n P) nm c h (sym (parted-front n clashes P c) ∙ q))))
     (λ q. q)

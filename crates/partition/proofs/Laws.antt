@@ -8,7 +8,7 @@ use lib.Dec.{eqb, ltb}
 use lib.ListN.{length, set, take, replicate, length-set, length-replicate, getD-replicate}
 use lib.Seq.{getD-set-same, getD-set-other}
 use borrow.Author.Tests.{eq-eqb, ne-eqb, ltb-true, ltb-false, eqb-true, eqb-false}
-use Rattle.meaning.specs.Cases.{test, and-intro, and-left, and-right}
+use Rattle.meaning.specs.Cases.{cases-of, and-intro, and-left, and-right}
 use Rattle.meaning.specs.Search.{least, tab, at}
 use Rattle.meaning.specs.SearchLaws.{least-is, least-cong, tab-cong, fill, at-take}
 use Rattle.meaning.specs.Classes.{groups, split}
@@ -100,12 +100,12 @@ module _ (n : ℕ) (P : List ℕ) (c : ℕ) (G : List ℕ) where
     renamed-skip u h miss = record {
       long = r .long;
       wide = r .wide;
-      done = λ t l. test (ltb t s)
+      done = λ t l. cases-of (ltb t s)
           (λ q. r .done t (ltb-true t s q))
           (λ q. let k : s ≤ t = ltb-false t s q in r .still t k ∙ renamed-other P c G t n (miss t k l));
       still = λ t l. r .still t (omega arith);
       known = λ g l. let f = r .known g l in record {
-        absent = λ z t k o. test (ltb t s) (λ q. f .absent z t (ltb-true t s q) o) (λ q. miss t (ltb-false t s q) k (o .0));
+        absent = λ z t k o. cases-of (ltb t s) (λ q. f .absent z t (ltb-true t s q) o) (λ q. miss t (ltb-false t s q) k (o .0));
         before = λ z. let b = f .before z in omega arith;
         of = f .of;
         least = f .least;
@@ -117,14 +117,14 @@ module _ (n : ℕ) (P : List ℕ) (c : ℕ) (G : List ℕ) where
       g = at G s
 
       none-before : (f : ℕ) → ((t : ℕ) → t < f → Of g t → ⊥) → (k : ℕ) → k < f → mate P c G s k ≡ false
-      none-before f z k l = test (mate P c G s k)
+      none-before f z k l = cases-of (mate P c G s k)
           (λ q. absurd (z k l (eqb-true _ _ (and-left (eqb (at P k) c) _ q), eqb-true _ _ (and-right (eqb (at P k) c) _ q))))
           (λ q. q)
 
       -- s is of group g, so nothing new is known of others
       other : (d f : ℕ) → First s d f → (d ≡ g → ⊥) → First (s + 1) d f
       other d f w z = record {
-        absent = λ q t k o. test (eqb t s)
+        absent = λ q t k o. cases-of (eqb t s)
             (λ y. z (sym (o .1) ∙ ap (at G) (eqb-true t s y)))
             (λ y. w .absent q t (omega (arith, eqb-false t s y)) o);
         before = λ q. let b = w .before q in omega arith;
@@ -138,7 +138,7 @@ module _ (n : ℕ) (P : List ℕ) (c : ℕ) (G : List ℕ) where
       named f q firsts′ l w = record {
         long = length-set names s f ∙ r .long;
         wide = l;
-        done = λ t k. test (eqb t s)
+        done = λ t k. cases-of (eqb t s)
             (λ y. let z : t ≡ s = eqb-true t s y in rw z (getD-set-same names s f 0 (omega (arith, r .long)) ∙ q))
             (λ y. let z = eqb-false t s y in getD-set-other names s t f 0 (λ u. z u) ∙ r .done t (omega arith));
         still = λ t k. let z : t ≡ s → ⊥ = λ u. omega arith in getD-set-other names s t f 0 z ∙ r .still t (omega arith);
@@ -162,7 +162,7 @@ module _ (n : ℕ) (P : List ℕ) (c : ℕ) (G : List ℕ) where
               (named s
               (renamed-here P c G s n s h e (and-intro (eq-eqb (at P s) c e) (eq-eqb g g refl)) (none-before s alone)) firsts′
               (ap (λ (k : List ℕ). length k) u ∙ length-set firsts g s ∙ r .wide)
-              (λ d k. test (eqb d g)
+              (λ d k. cases-of (eqb d g)
               (λ y. let same : d ≡ g = eqb-true d g y in rw (same, here) record {
                 absent = λ q. absurd (omega arith);
                 before = λ _. omega arith;
@@ -187,7 +187,7 @@ module _ (n : ℕ) (P : List ℕ) (c : ℕ) (G : List ℕ) where
               let f = at firsts g in
               let mates = and-intro (eq-eqb (at P f) c (o .0)) (eq-eqb (at G f) g (o .1)) in
               named f (renamed-here P c G s n f (omega arith) e mates (none-before f (w .least z))) firsts (r .wide)
-              (λ d k. test (eqb d g)
+              (λ d k. cases-of (eqb d g)
               (λ y. let same : d ≡ g = eqb-true d g y in rw same record {
                 absent = λ q. absurd (z q);
                 before = λ _. omega arith;

@@ -1,3 +1,3 @@
-pub mod Low
+pub mod Places
 pub mod Telling
 pub mod Unique

@@ -7,7 +7,7 @@ use borrow.Fn.Kinds.{endedOf}
 use denote.Ref.{now}
 use denote.Triple.Clauses.{AtExit}
 use mathlib.Core.Path.{_≡_, ap, sym, _∙_}
-use Rattle.meaning.specs.Cases.{clash}
+use Rattle.meaning.specs.Cases.{impossible}
 use Rattle.refusals.proofs.Laws.{refusal-one, promise-one}
 use Rattle.folding.specs.declared.Counts.{Counts}
 use Rattle.reduction.specs.declared.Reduced.{Reduced}
@@ -29,8 +29,8 @@ counts-one a b e =
 pub reduced-one : (a b : Reduced) → reducedOutcome a ≡ reducedOutcome b → a ≡ b
 reduced-one (reduced.Accepted a) (reduced.Accepted b) e = ap reduced.Accepted (counts-one a b e)
 reduced-one (reduced.Refused r) (reduced.Refused s) e = ap reduced.Refused (refusal-one r s e)
-reduced-one (reduced.Accepted a) (reduced.Refused s) e = clash cc
-reduced-one (reduced.Refused r) (reduced.Accepted b) e = clash cc
+reduced-one (reduced.Accepted a) (reduced.Refused s) e = impossible cc
+reduced-one (reduced.Refused r) (reduced.Accepted b) e = impossible cc
 
 pub reduce-contract-one : (κs : Lfts 3) (a : ArgsD reduce.signature κs) (r₁ r₂ : ResD reduce.signature κs)
     (s₁ s₂ : AtExit (endedOf 3 kinds.ps kinds.r) κs) →

@@ -8,7 +8,7 @@ use lib.Dec.{eqb}
 use lib.ListN.{length, take, drop}
 use lib.Seq.{take-at}
 use Rattle.meaning.specs.Pick.{pick}
-use Rattle.meaning.specs.Cases.{clash, test}
+use Rattle.meaning.specs.Cases.{impossible, cases-of}
 use Rattle.refusals.specs.declared.Kind.{Kind}
 use Rattle.refusals.specs.declared.Kind.the-variants.{TooShort, Start, EdgeCount, Missing, Excess, Filling, Outside, Order, Repeated, AnswerRoom, ClassRoom, Room, Observation, Lists}
 use Rattle.refusals.specs.declared.Refusal.{Refusal}
@@ -61,7 +61,7 @@ Passed [] = Unit {0}
 Passed (t ∷ ts) = (t .given ≡ false) × Passed ts
 
 refuse-accepted : (b : Bool) (k p : ℕ) (next : Outcome) (vs : List ℕ) → pick b (refused k p) next ≡ accepted vs → (b ≡ false) × (next ≡ accepted vs)
-refuse-accepted true k p next vs h = clash cc
+refuse-accepted true k p next vs h = impossible cc
 refuse-accepted false k p next vs h = (refl, h)
 
 pub first-accepted : (ts : List Test) (next : Outcome) (vs : List ℕ) → firstOf ts next ≡ accepted vs → Passed ts × (next ≡ accepted vs)
@@ -78,7 +78,12 @@ first-passed (t ∷ ts) next p = rw (p .0) (first-passed ts next (p .1))
 -- the first of the tests that is given is also the first of them before anything else that follows
 pub first-onward : (ts : List Test) (vs : List ℕ) (next : Outcome) → firstOf ts next ≡ onward (firstOf ts (accepted vs)) next
 first-onward [] vs next = refl
-first-onward (t ∷ ts) vs next = test (t .given) (λ q. rw q) (λ q. rw q (first-onward ts vs next))
+first-onward (t ∷ ts) vs next = cases-of (t .given) (λ q. rw q) (λ q. rw q (first-onward ts vs next))
+
+-- what goes on behind a file and accepts was given an accepted file
+pub onward-accepted : (o next : Outcome) (vs : List ℕ) → onward o next ≡ accepted vs → (us : List ℕ) × (o ≡ accepted us) × (next ≡ accepted vs)
+onward-accepted (accepted us) next vs h = (us, refl, h)
+onward-accepted (refused k p) next vs h = impossible cc
 
 -- ---- rooms
 

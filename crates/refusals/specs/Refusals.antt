@@ -6,7 +6,7 @@ use mathlib.Core.Path.{_≡_}
 use mathlib.Core.Bool.{Bool}
 use mathlib.Core.List.{List, [], _∷_, _++_}
 use lib.Dec.{ltb}
-use lib.ListN.{length, drop}
+use lib.ListN.{length, drop, replicate}
 use Rattle.meaning.specs.Pick.{pick}
 use Rattle.refusals.specs.declared.Kind.{Kind}
 use Rattle.refusals.specs.declared.Kind.the-variants as kind
@@ -29,11 +29,23 @@ numberOf kind.Room = 12
 numberOf kind.Observation = 13
 numberOf kind.Lists = 14
 
--- What a call answers: the values that come back, or a refusal's number and place. With a refusal no other number comes back:
--- it has no values, each count of it is 0.
+-- What a call answers: the values that come back, or a refusal's number and place. With a refusal no other number comes back.
 pub data Outcome : Type 0 where
   accepted : List ℕ → Outcome
   refused : ℕ → ℕ → Outcome
+
+-- The refusal's number and place, 0 and 0 where the call accepts; and the k values that it has then. With a refusal each is 0.
+abbrev pub numberIn : Outcome → ℕ
+numberIn (accepted vs) = 0
+numberIn (refused number place) = number
+
+abbrev pub placeIn : Outcome → ℕ
+placeIn (accepted vs) = 0
+placeIn (refused number place) = place
+
+abbrev pub valuesOf : ℕ → Outcome → List ℕ
+valuesOf k (accepted vs) = vs
+valuesOf k (refused number place) = replicate k 0
 
 abbrev pub refusalOutcome : Refusal → Outcome
 refusalOutcome r = refused (numberOf (r .kind)) (r .place)

@@ -13,7 +13,7 @@ use Rattle.meaning.specs.Search.{least, tab, at}
 use Rattle.meaning.specs.SearchLaws.{least-ok, least-cong, tab-cong, count-cong, at-take, any-cong}
 use Rattle.meaning.specs.Classes.{Task, Classes, initial, parted, first, free, groups, split, named, classes}
 use Rattle.meaning.specs.Classes.{round, chosen, begin, cut, run, reduction}
-use Rattle.meaning.specs.Cases.{test, no-both}
+use Rattle.meaning.specs.Cases.{cases-of, no-both}
 use Rattle.meaning.specs.ClassesLaws.{Named, groups-apart}
 use Rattle.meaning.specs.Reduced.{Grouping, apart, conflict, taskOver}
 use Rattle.meaning.specs.Reduction.{Fair, Good, Kept, initial-good, cut-kept, classes-some, classes-max}
@@ -191,7 +191,7 @@ module _ (T : Table) (hues : List ℕ) (n : ℕ) where
       running-heads c e l =
           let P = Q .names in
           let hit : parted n (clash T P) P c ≡ true = rw e (least-ok (parted n (clash T P) P) n (omega (arith, e))) in
-          heads n P running-named c l (test (eqb (at P c) c)
+          heads n P running-named c l (cases-of (eqb (at P c) c)
           (λ q. eqb-true _ _ q)
           (λ q. no-both hit (parted-own n (clash T P) P running-named c l (eqb-false _ _ q))))
 

@@ -1,1 +1,3 @@
 pub mod Text
+-- Theorems.
+pub mod Longest

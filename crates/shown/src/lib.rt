@@ -1,4 +1,4 @@
-// The lines that `trace` prints, put into a lent room one behind another.
+// What `trace` prints of a filter file and observations: its lines, put into a lent room one behind another.
 use tracing::Traced;
 ghost use mathlib.Core.Path.{_≡_};
 ghost use mathlib.Core.List.{_++_};
@@ -6,7 +6,43 @@ ghost use Prim.Native.Nat.{_+_, _*_, _≤_};
 ghost use lib.ListN.{length};
 ghost use Rattle.text.specs.Decimal.{wrote};
 ghost use Rattle.lines.specs.Text.{ended};
-ghost use Rattle.shown.specs.Text.{stoppedWord, numberLines, lastLine};
+ghost use Rattle.text.specs.Printed.{Printed};
+ghost use Rattle.shown.specs.Text.{stoppedWord, numberLines, lastLine, shownFor, traceText};
+
+// Puts what `trace` prints of a file and observations at the beginning of the room, and answers its length; nothing, and 0, where
+// the room is too short.
+pub fn text(file: &[u8], observations: &[u8], room: &mut [u8]) -> usize
+    ensures { λ r. ⌜ Printed (traceText (now (file .entry)) (now (observations .entry))) (now (room .entry)) r
+        (now (room .exit)) ⌝ }
+{
+    let mut made = trace_room();
+    let k = put_text(&mut made, file, observations);
+    text::print(&made[..k], room)
+}
+
+// The same into a room that is long enough for any.
+fn put_text(room: &mut [u8], file: &[u8], observations: &[u8]) -> usize
+    requires { ⌜ 262208 ≤ length (now room) ⌝ }
+    ensures { λ r. ⌜ (now (room .exit) ≡ wrote (now (room .entry)) 0 (traceText (now (file .entry)) (now (observations .entry))))
+        × (r ≡ length (traceText (now (file .entry)) (now (observations .entry)))) × (r ≤ 262208) ⌝ }
+{
+    let mut colours = io::large_buffer();
+    let answer = tracing::trace(file, observations, &mut colours);
+    let k = shown(answer, observations.len());
+    put_trace(room, &colours[..k], answer)
+}
+
+// How many colours were shown.
+fn shown(answer: Traced, observations: usize) -> usize
+    requires { ⌜ shownFor answer observations ≤ 65536 ⌝ }
+    ensures { λ r. ⌜ r ≡ shownFor answer observations ⌝ }
+{
+    match answer {
+        Traced::All => observations + 1,
+        Traced::Stopped(i) => i + 1,
+        Traced::Refused(_) => 0,
+    }
+}
 
 // A number on a line of its own.
 fn put_line(room: &mut [u8], at: usize, n: u8) -> usize
@@ -34,7 +70,7 @@ fn put_lines(room: &mut [u8], numbers: &[u8]) -> usize
 fn put_stop(room: &mut [u8], at: usize, i: usize) -> usize
     requires { ⌜ at + 50 ≤ length (now room) ⌝ }
     ensures { λ r. ⌜ (now (room .exit) ≡ wrote (now (room .entry)) at (stoppedWord ++ ended i))
-        × (r ≡ at + length (stoppedWord ++ ended i)) ⌝ }
+        × (r ≡ at + length (stoppedWord ++ ended i)) × (r ≤ at + 50) ⌝ }
 {
     let word = text::put(room, at, b"stopped ");
     text::put_number(room, word, i as u64, b'\n')
@@ -43,7 +79,8 @@ fn put_stop(room: &mut [u8], at: usize, i: usize) -> usize
 // The last line of what trace prints.
 fn put_last(room: &mut [u8], at: usize, answer: Traced) -> usize
     requires { ⌜ at + 50 ≤ length (now room) ⌝ }
-    ensures { λ r. ⌜ (now (room .exit) ≡ wrote (now (room .entry)) at (lastLine answer)) × (r ≡ at + length (lastLine answer)) ⌝ }
+    ensures { λ r. ⌜ (now (room .exit) ≡ wrote (now (room .entry)) at (lastLine answer)) × (r ≡ at + length (lastLine answer))
+        × (r ≤ at + 50) ⌝ }
 {
     match answer {
         Traced::All => text::put(room, at, b"traced\n"),
@@ -52,11 +89,11 @@ fn put_last(room: &mut [u8], at: usize, answer: Traced) -> usize
     }
 }
 
-// What trace prints: the colours that were shown, one a line, and the last line. Answers its length.
-pub fn put_trace(room: &mut [u8], colours: &[u8], answer: Traced) -> usize
+// The colours that were shown, one a line, and the last line. Answers the length of both.
+fn put_trace(room: &mut [u8], colours: &[u8], answer: Traced) -> usize
     requires { ⌜ 4 * length (now colours) + 50 ≤ length (now room) ⌝ }
     ensures { λ r. ⌜ (now (room .exit) ≡ wrote (now (room .entry)) 0 (numberLines (now (colours .entry)) ++ lastLine answer))
-        × (r ≡ length (numberLines (now (colours .entry)) ++ lastLine answer)) ⌝ }
+        × (r ≡ length (numberLines (now (colours .entry)) ++ lastLine answer)) × (r ≤ 4 * length (now (colours .entry)) + 50) ⌝ }
 {
     let at = put_lines(room, colours);
     put_last(room, at, answer)

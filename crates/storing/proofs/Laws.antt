@@ -15,7 +15,7 @@ use Rattle.pen.specs.Runs.{inked, placeOf, Ready}
 use Rattle.pen.proofs.Pens.{drawn-none, drawn-behind}
 use Rattle.meaning.specs.Search.{count, at}
 use Rattle.meaning.specs.SearchLaws.{count-cong}
-use Rattle.meaning.specs.Cases.{test, no-both}
+use Rattle.meaning.specs.Cases.{cases-of, no-both}
 use Rattle.meaning.specs.Reduced.{has, cell, row, listed}
 use Rattle.meaning.specs.Listing.{cells, cells-max, listed-length}
 use Rattle.meaning.specs.Filter.{Edge}
@@ -79,7 +79,7 @@ listed-few next n = rw (listed-length next n 64) (cells-max _ n 64)
 row-skip : (next : ℕ → Option ℕ) (k y z : ℕ) → y ≤ z → ((j : ℕ) → y ≤ j → j < z → next j ≡ none) → row next k z ≡ row next k y
 unfolding row cell
 row-skip next k y zero l h = let none-left : 0 ≡ y = omega arith in ap (row next k) none-left
-row-skip next k y (suc z) l h = test (eqb y (suc z))
+row-skip next k y (suc z) l h = cases-of (eqb y (suc z))
     (λ q. ap (row next k) (sym (eqb-true y (suc z) q)))
     (λ q. let w : y ≤ z = omega (arith, eqb-false y (suc z) q) in
     rw (h z w (omega arith)) (append-nil (row next k z) ∙ row-skip next k y z w (λ j a b. h j a (omega arith))))

@@ -50,7 +50,7 @@ pub record Storable (p : Profile) (T : Table) (order list : List ℕ) (limit : �
   pub states : length order ≤ 2 ^ p .states
   pub rows : (k : ℕ) → k < length order → Rows T (at order k + 1)
   pub label : (k y t : ℕ) → k < length order → look T (at order k) y ≡ some t → y < limit
-  pub listed : (k y t : ℕ) → k < length order → look T (at order k) y ≡ some t → t < length list
+  pub in-list : (k y t : ℕ) → k < length order → look T (at order k) y ≡ some t → t < length list
   pub target : (k y t : ℕ) → k < length order → look T (at order k) y ≡ some t → at list t < 2 ^ p .states
 
 -- What is asked for drawing the row of state k behind what a pen holds.

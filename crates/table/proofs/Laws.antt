@@ -13,7 +13,7 @@ use lib.Seq.{getD-set-same, getD-set-other}
 use borrow.Author.Tests.{lt-ltb, le-ltb, ltb-true, ltb-false, eq-eqb, ne-eqb, eqb-true, eqb-false}
 use Rattle.meaning.specs.Search.{at}
 use Rattle.meaning.specs.Pick.{pick}
-use Rattle.meaning.specs.Cases.{clash, test, no-both, and-left, same²}
+use Rattle.meaning.specs.Cases.{impossible, cases-of, no-both, and-left, same²}
 use Rattle.meaning.specs.Reduced.{has}
 use Rattle.meaning.specs.Trace.{target}
 use Rattle.sets.specs.Sets.{holds, Lowest}
@@ -42,7 +42,7 @@ look-none T s y e = go (decLt y 64)
 
 -- whether a state has a label is whether the label is in its set
 pub look-has : (T : Table) (s y : ℕ) → y < 64 → has (look T s y) ≡ holds (at (T .labels) s) y
-look-has T s y h = test (holds (at (T .labels) s) y)
+look-has T s y h = cases-of (holds (at (T .labels) s) y)
     (λ q. ap has (look-some T s y h q) ∙ sym q)
     (λ q. ap has (look-none T s y q) ∙ sym q)
 
@@ -51,10 +51,10 @@ pub look-there : (T : Table) (s y t : ℕ) → look T s y ≡ some t → (y < 64
 look-there T s y t e = go (decLt y 64)
   where
     go : Dec (y < 64) → (y < 64) × (holds (at (T .labels) s) y ≡ true) × (at (T .targets) (s * 64 + y) ≡ t)
-    go (yes h) = test (holds (at (T .labels) s) y)
+    go (yes h) = cases-of (holds (at (T .labels) s) y)
         (λ q. let is = sym (look-some T s y h q) ∙ e in (h, q, cc))
-        (λ q. let is = sym (look-none T s y q) ∙ e in clash cc)
-    go (no h) = let is = sym (look-out T s y h) ∙ e in clash cc
+        (λ q. let is = sym (look-none T s y q) ∙ e in impossible cc)
+    go (no h) = let is = sym (look-out T s y h) ∙ e in impossible cc
 
 pub look-empty : (targets : List ℕ) (k : ℕ) → look (table targets (replicate k 0)) ≡ target []
 unfolding target
@@ -72,7 +72,7 @@ same-look T T′ s y labels targets = go (decLt y 64)
   where
     go : Dec (y < 64) → look T′ s y ≡ look T s y
     go (no h) = look-out T′ s y h ∙ sym (look-out T s y h)
-    go (yes h) = test (holds (at (T .labels) s) y)
+    go (yes h) = cases-of (holds (at (T .labels) s) y)
         (λ q. look-some T′ s y h (labels h ∙ q) ∙ ap some (targets h q) ∙ sym (look-some T s y h q))
         (λ q. look-none T′ s y (labels h ∙ q) ∙ sym (look-none T s y q))
 
@@ -99,7 +99,7 @@ module _ (T : Table) (s y t v : ℕ) (hy : y < 64) (rows : Rows T (s + 1)) (v-is
 
   pub look-put : look more ≡ withEdge (look T) s y t
   unfolding withEdge
-  look-put = fun-ext λ a. fun-ext λ b. test (eqb s a && eqb y b)
+  look-put = fun-ext λ a. fun-ext λ b. cases-of (eqb s a && eqb y b)
       (λ q. let w = same² s a y b q in rw (q, ← w .0, ← w .1) here)
       (λ q. rw q (elsewhere a b (λ d e. no-both {b = eqb s a && eqb y b} (rw (eq-eqb s a d, eq-eqb y b e)) q)))
 
@@ -120,7 +120,7 @@ module _ (before : List ℕ) (from to own other : ℕ) where
     others = λ s y h e. refl;
     kept = λ y h q. refl;
     done = λ y h p q r. no-both {b = holds rest y} (is y ∙ rw (p, q)) r;
-    left = λ y q. test (holds own y) (λ p. no-both {b = holds rest y} q (is y ∙ rw p (and-no (holds other y)))) (λ p. p);
+    left = λ y q. cases-of (holds own y) (λ p. no-both {b = holds rest y} q (is y ∙ rw p (and-no (holds other y)))) (λ p. p);
   }
     where
       and-no : (b : Bool) → (b && false) ≡ false
@@ -147,7 +147,7 @@ module _ (before : List ℕ) (from to own other : ℕ) where
       go : (y : ℕ) → y < 64 → holds other y ≡ true → holds own y ≡ false → holds rest′ y ≡ false → Dec (k ≡ y) → at (set targets (to * 64 + k) (at targets (from * 64 + k))) (to * 64 + y) ≡ at before (from * 64 + y)
       go y h p q r (yes e) =
           rw (← e) (getD-set-same targets (to * 64 + k) (at targets (from * 64 + k)) 0 (omega (arith, g .same-length)) ∙ g .others from k hk (λ z. apart (sym z)))
-      go y h p q r (no e) = kept-at to y (λ z. e (omega arith)) ∙ g .done y h p q (test (holds rest y) (λ w. no-both {b = holds rest′ y} (is y ∙ rw (w, ne-eqb k y e)) r) (λ w. w))
+      go y h p q r (no e) = kept-at to y (λ z. e (omega arith)) ∙ g .done y h p q (cases-of (holds rest y) (λ w. no-both {b = holds rest′ y} (is y ∙ rw (w, ne-eqb k y e)) r) (λ w. w))
 
 module _ (T : Table) (from to both : ℕ) (apart : (from ≡ to → ⊥)) (rows : Rows T (to + 1))
     (both-is : (j : ℕ) → holds both j ≡ (holds (at (T .labels) to) j || holds (at (T .labels) from) j)) (targets : List ℕ)
@@ -159,15 +159,15 @@ module _ (T : Table) (from to both : ℕ) (apart : (from ≡ to → ⊥)) (rows 
   set-to = getD-set-same (T .labels) to both 0 (omega (arith, rows .labels-long))
 
   to-label : (y : ℕ) → y < 64 → look gave to y ≡ or (look T to y) (look T from y)
-  to-label y h = test (holds (at (T .labels) to) y)
+  to-label y h = cases-of (holds (at (T .labels) to) y)
       (λ q. look-some gave to y h (ap (λ (x : ℕ). holds x y) set-to ∙ both-is y ∙ rw q) ∙ ap some (g .kept y h q) ∙ rw (look-some T to y h q))
-      (λ q. test (holds (at (T .labels) from) y)
+      (λ q. cases-of (holds (at (T .labels) from) y)
       (λ p. look-some gave to y h (ap (λ (x : ℕ). holds x y) set-to ∙ both-is y ∙ rw (q, p)) ∙ ap some (g .done y h p q (holds-none y)) ∙ rw (look-none T to y q, look-some T from y h p))
       (λ p. look-none gave to y (ap (λ (x : ℕ). holds x y) set-to ∙ both-is y ∙ rw (q, p)) ∙ rw (look-none T to y q, look-none T from y p)))
 
   pub look-gave : look gave ≡ given (look T) from to
   unfolding given
-  look-gave = fun-ext λ s. fun-ext λ y. test (eqb s to)
+  look-gave = fun-ext λ s. fun-ext λ y. cases-of (eqb s to)
       (λ q. rw (q, eqb-true s to q) (go y (decLt y 64)))
       (λ q. rw q
       (same-look T gave s y (λ h. ap (λ (x : ℕ). holds x y) (getD-set-other (T .labels) to s both 0 (eqb-false s to q)))

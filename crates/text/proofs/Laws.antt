@@ -13,6 +13,7 @@ use lib.Seq.{paste, take-at, drop-at, drop-drop, length-take-le, take-length}
 use borrow.Author.Tests.{lt-ltb, le-ltb}
 use Rattle.io.specs.Digits.{glyph, digits, Fewest}
 use Rattle.text.specs.Decimal.{digitsOf, decimal, wrote}
+use Rattle.text.specs.Printed.{Printed}
 
 -- ---- digits
 
@@ -61,15 +62,22 @@ decimal-is n k h f =
             let a : 10 ^ 20 ≤ 10 ^ (k - 1) = pow-le-pow-right {n = 10} (lit< tt) {i = 20} {j = k - 1} (omega arith) in
             absurd (omega (arith, f .2 (omega arith)))
 
--- a number below 1000 has at most three digits
-pub three-digits : (n : ℕ) → n < 1000 → length (decimal n) ≤ 3
-unfolding decimal digitsOf
-three-digits n h = go (decLt n 10) (decLt (n / 10) 10)
-  where
-    go : Dec (n < 10) → Dec (n / 10 < 10) → length (digitsOf 20 n) ≤ 3
-    go (yes a) b = rw (lt-ltb n 10 a) (omega arith)
-    go (no a) (yes b) = rw (le-ltb n 10 (omega arith), lt-ltb (n / 10) 10 b) (omega arith)
-    go (no a) (no b) = rw (le-ltb n 10 (omega arith), le-ltb (n / 10) 10 (omega arith), lt-ltb (n / 10 / 10) 10 (omega arith)) (omega arith)
+-- a number below a power of ten has at most so many digits
+one-digit-more : (f k n : ℕ) → n < 10 ^ suc k → ((j : ℕ) → n / 10 < 10 ^ suc j → length (digitsOf f (n / 10)) ≤ suc j) → Dec (n < 10) → length (digitsOf (suc f) n) ≤ suc k
+unfolding digitsOf
+one-digit-more f k n h less (yes l) = rw (lt-ltb n 10 l) (omega arith)
+one-digit-more f zero n h less (no l) = absurd (omega (arith, h))
+one-digit-more f (suc k) n h less (no l) =
+    rw (le-ltb n 10 (omega arith)) (omega (arith, length-append (digitsOf f (n / 10)) ((48 + n % 10) ∷ []), less k (omega (arith, h, pow-suc 10 (suc k)))))
+
+digits-most : (f k n : ℕ) → n < 10 ^ suc k → length (digitsOf f n) ≤ suc k
+unfolding digitsOf
+digits-most zero k n h = omega arith
+digits-most (suc f) k n h = one-digit-more f k n h (λ j. digits-most f j (n / 10)) (decLt n 10)
+
+pub decimal-most : (k n : ℕ) → n < 10 ^ suc k → length (decimal n) ≤ suc k
+unfolding decimal
+decimal-most k n h = digits-most 20 k n h
 
 -- ---- pieces
 
@@ -107,3 +115,23 @@ pub both-front : {r₁ r₂ : List ℕ} {e₁ e₂ : ℕ} (r₀ : List ℕ) (a b
 both-front r₀ a b p q u v =
     let done = both r₀ 0 a b (omega arith) p (q ∙ sym (zero-add (length a))) u v in
     (done .0, done .1 ∙ zero-add (length (a ++ b)))
+
+-- the room begins with the text
+pub wrote-front : (room text : List ℕ) (k : ℕ) → k ≡ length text → take k (wrote room 0 text) ≡ text
+wrote-front room text k h = take-at text (drop (0 + length text) room) k (sym h)
+
+-- ---- whole texts
+
+pub printed-short : (text room : List ℕ) → length room < length text → Printed text room 0 room
+printed-short text room h = let t = lt-ltb _ _ h in record { count = rw t; room-after = rw t; within = (omega arith, refl) }
+
+pub printed-whole : (text room : List ℕ) (r : ℕ) (room′ : List ℕ) → length text ≤ length room → r ≡ length text → room′ ≡ wrote room 0 text → Printed text room r room′
+printed-whole text room r room′ h e w =
+    let t = le-ltb _ _ h in
+    let long : length (wrote room 0 text) ≡ length text + length (drop (0 + length text) room) = length-append text (drop (0 + length text) room) in
+    let within : r ≤ length room′ = rw (e, w) (omega (arith, long)) in
+    record { count = e ∙ rw t; room-after = w ∙ rw t; within = (within, sym (length-take-le r room′ within)) }
+
+-- one answer and one room meet it
+pub printed-one : {text room : List ℕ} {r₁ r₂ : ℕ} {room₁ room₂ : List ℕ} → Printed text room r₁ room₁ → Printed text room r₂ room₂ → (r₁ ≡ r₂) × (room₁ ≡ room₂)
+printed-one p q = (p .count ∙ sym (q .count), p .room-after ∙ sym (q .room-after))

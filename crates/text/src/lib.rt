@@ -4,6 +4,7 @@ ghost use mathlib.Core.List.{[], _∷_, _++_};
 ghost use Prim.Native.Nat.{_+_, _≤_};
 ghost use lib.ListN.{length};
 ghost use Rattle.text.specs.Decimal.{decimal, wrote};
+ghost use Rattle.text.specs.Printed.{Printed};
 
 // Puts bytes into the room from `at` on, and answers the place behind them.
 pub fn put(room: &mut [u8], at: usize, bytes: &[u8]) -> usize
@@ -44,4 +45,14 @@ pub fn put_number(room: &mut [u8], at: usize, n: u64, behind: u8) -> usize
 {
     let end = put_decimal(room, at, n);
     put(room, end, &[behind])
+}
+
+// Puts bytes at the beginning of the room, and answers how many; none where the room is too short.
+pub fn print(bytes: &[u8], room: &mut [u8]) -> usize
+    ensures { λ r. ⌜ Printed (now (bytes .entry)) (now (room .entry)) r (now (room .exit)) ⌝ }
+{
+    if room.len() < bytes.len() {
+        return 0;
+    }
+    put(room, 0, bytes)
 }

@@ -12,7 +12,7 @@ use Rattle.bits.proofs.Parts.{store-more}
 use Rattle.meaning.specs.Search.{at}
 use Rattle.meaning.specs.Trace.{ridden, halted}
 use Rattle.meaning.specs.TraceLaws.{ridden-on, ridden-stop, halted-on, halted-stop}
-use Rattle.meaning.specs.Cases.{clash}
+use Rattle.meaning.specs.Cases.{impossible}
 use Rattle.refusals.specs.Refusals.{laid}
 use Rattle.table.specs.Table.{Table, look}
 use Rattle.observed.proofs.Laws.{from, from-later, from-zero}
@@ -24,12 +24,12 @@ use Rattle.tracing.specs.Riding.{Stand, Ridable, Ridden}
 -- ---- a step
 
 course-onto : (o : Option ℕ) (taken s k : ℕ) → onto s k ≡ courseOf o taken → (o ≡ some s) × (k ≡ taken + 1)
-course-onto none taken s k h = clash cc
+course-onto none taken s k h = impossible cc
 course-onto (some t) taken s k h = (ap some (cc h), cc h)
 
 course-stop : (o : Option ℕ) (taken k : ℕ) → stop k ≡ courseOf o taken → (o ≡ none) × (k ≡ taken)
 course-stop none taken k h = (refl, cc h)
-course-stop (some t) taken k h = clash cc
+course-stop (some t) taken k h = impossible cc
 
 -- ---- the ride
 

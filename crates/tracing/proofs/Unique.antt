@@ -7,7 +7,7 @@ use borrow.Fn.Kinds.{endedOf}
 use denote.Ref.{now}
 use denote.Triple.Clauses.{AtExit}
 use mathlib.Core.Path.{_≡_, refl, ap, sym, _∙_}
-use Rattle.meaning.specs.Cases.{clash}
+use Rattle.meaning.specs.Cases.{impossible}
 use Rattle.refusals.proofs.Laws.{refusal-one, promise-one}
 use Rattle.tracing.specs.declared.Traced.{Traced}
 use Rattle.tracing.specs.declared.Traced.the-variants as traced
@@ -20,12 +20,12 @@ pub traced-one : (a b : Traced) → tracedOutcome a ≡ tracedOutcome b → a �
 traced-one traced.All traced.All e = refl
 traced-one (traced.Stopped i) (traced.Stopped j) e = ap traced.Stopped (cc e)
 traced-one (traced.Refused r) (traced.Refused s) e = ap traced.Refused (refusal-one r s e)
-traced-one traced.All (traced.Stopped j) e = clash cc
-traced-one traced.All (traced.Refused s) e = clash cc
-traced-one (traced.Stopped i) traced.All e = clash cc
-traced-one (traced.Stopped i) (traced.Refused s) e = clash cc
-traced-one (traced.Refused r) traced.All e = clash cc
-traced-one (traced.Refused r) (traced.Stopped j) e = clash cc
+traced-one traced.All (traced.Stopped j) e = impossible cc
+traced-one traced.All (traced.Refused s) e = impossible cc
+traced-one (traced.Stopped i) traced.All e = impossible cc
+traced-one (traced.Stopped i) (traced.Refused s) e = impossible cc
+traced-one (traced.Refused r) traced.All e = impossible cc
+traced-one (traced.Refused r) (traced.Stopped j) e = impossible cc
 
 pub trace-contract-one : (κs : Lfts 3) (a : ArgsD trace.signature κs) (r₁ r₂ : ResD trace.signature κs)
     (s₁ s₂ : AtExit (endedOf 3 kinds.ps kinds.r) κs) →

@@ -11,7 +11,7 @@ use lib.ListN.{length, drop, replicate}
 use borrow.Author.Tests.{lt-ltb, le-ltb}
 use Rattle.pen.specs.Runs.{fields}
 use Rattle.meaning.specs.Filter.{Edge}
-use Rattle.meaning.specs.Cases.{clash, or-left, or-right}
+use Rattle.meaning.specs.Cases.{impossible, or-left, or-right}
 use Rattle.refusals.specs.declared.Kind.the-variants.{Room}
 use Rattle.refusals.specs.declared.Refusal.{Refusal}
 use Rattle.refusals.specs.Refusals.{Outcome, accepted, refused, refusalOutcome, firstOf, onward, laid}
@@ -47,7 +47,7 @@ unpack-checked P s vs room h = go (checkOf P s) refl h
   where
     go : (o : Outcome) → checkOf P s ≡ o → onward o (firstOf (unpackTests P s room) (accepted (numbersIn P s))) ≡ accepted vs → checkOf P s ≡ accepted vs
     go (accepted us) q k = q ∙ ap accepted (sym (check-sound P s us q .1)) ∙ first-accepted (unpackTests P s room) (accepted (numbersIn P s)) vs k .1
-    go (refused n p) q k = clash cc
+    go (refused n p) q k = impossible cc
 
 -- a refused file ends the call with that same refusal
 pub unpack-refused : (P : Profile) (s : List ℕ) (room : Rooms) (r : Refusal) → checkOf P s ≡ refusalOutcome r → UnpackPromise P s room (unpacked.Refused r) room

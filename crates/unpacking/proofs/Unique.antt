@@ -5,7 +5,7 @@ use borrow.Fn.Kinds.{endedOf}
 use denote.Ref.{now}
 use denote.Triple.Clauses.{AtExit}
 use mathlib.Core.Path.{_≡_, sym, ap, _∙_}
-use Rattle.meaning.specs.Cases.{clash}
+use Rattle.meaning.specs.Cases.{impossible}
 use Rattle.refusals.proofs.Laws.{refusal-one, promise-one}
 use Rattle.checking.proofs.Unique.{reading-one}
 use Rattle.unpacking.specs.declared.Unpacked.{Unpacked}
@@ -18,8 +18,8 @@ use Rattle.unpacking.proofs.unpack.Reads as unpack-reads
 pub unpacked-one : (a b : Unpacked) → unpackedOutcome a ≡ unpackedOutcome b → a ≡ b
 unpacked-one (unpacked.Accepted r) (unpacked.Accepted s) e = ap unpacked.Accepted (reading-one r s e)
 unpacked-one (unpacked.Refused r) (unpacked.Refused s) e = ap unpacked.Refused (refusal-one r s e)
-unpacked-one (unpacked.Accepted r) (unpacked.Refused s) e = clash cc
-unpacked-one (unpacked.Refused r) (unpacked.Accepted s) e = clash cc
+unpacked-one (unpacked.Accepted r) (unpacked.Refused s) e = impossible cc
+unpacked-one (unpacked.Refused r) (unpacked.Accepted s) e = impossible cc
 
 pub unpack-contract-one : (κs : Lfts 3) (a : ArgsD unpack.signature κs) (r₁ r₂ : ResD unpack.signature κs)
     (s₁ s₂ : AtExit (endedOf 3 unpack-kinds.ps unpack-kinds.r) κs) →

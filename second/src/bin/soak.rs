@@ -10,7 +10,7 @@ use second::compare::Batch;
 use second::frame::read_batch;
 use second::make::{self, Made};
 use second::proved::program;
-use second::random::{seed, Random};
+use second::random::{unprinted_seed, Random};
 use std::fmt;
 use std::process::ExitCode;
 use std::time::{Duration, Instant};
@@ -61,7 +61,7 @@ impl fmt::Display for Agreed {
 }
 
 fn soak(time: Duration) -> ExitCode {
-    let seed = seed();
+    let seed = unprinted_seed();
     println!("SEED={seed}");
     let mut random = Random::new(seed);
     let mut agreed = Agreed {

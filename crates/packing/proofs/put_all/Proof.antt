@@ -33,8 +33,8 @@ loop-holds : tie.Need-loop-holds Inv-loop μ-loop
 unfolding edgeWidths
 loop-holds c = (omega arith, c .begin .ensures)
 
-listed-requires : tie.Need-listed-requires Inv-loop μ-loop
-listed-requires c κs = omega (arith, whole (c .before .before .before .before .before .before .before))
+edge-in-requires : tie.Need-edge-in-requires Inv-loop μ-loop
+edge-in-requires c κs = omega (arith, whole (c .before .before .before .before .before .before .before))
 
 push-requires : tie.Need-push-requires Inv-loop μ-loop
 push-requires c κs =
@@ -43,7 +43,7 @@ push-requires c κs =
     let start = in-loop .before .before .before .before .before .before in
     let a = start .args in
     let pre = start .pre in
-    let is = c .listed .ensures .0 in
+    let is = c .edge-in .ensures .0 in
     let f = fit-edge (a .p) (a .e) (now (a .edges)) (loop .i) (pre .fit) (in-loop .loop-test .taken) in
     record {
       usable = pre .usable;
@@ -67,7 +67,7 @@ loop-again c =
     let next : 3 * (i + 1) ≡ 3 * i + 3 = omega arith in
     let drawn =
     subst (λ (e : Edge). Drawn (inked (loop .part) (loop .pen)) (placeOf (loop .pen)) (edgeWidths (a .p) 1) (flat (e ∷ [])) (push .push .last .1 .0) (push .push .result))
-    (push .before .listed .ensures .0) (push .push .ensures) in
+    (push .before .edge-in .ensures .0) (push .push .ensures) in
     (omega arith, rw (next, take-three edges (3 * i) (omega (arith, whole start)), widths-append (a .p) i 1) (drawn-behind (loop .inv .1) drawn))
 
 finish-requires : tie.Need-finish-requires Inv-loop μ-loop
@@ -95,7 +95,7 @@ put-all-spec =
     μ-loop
     (λ c κs. search needs)
     loop-holds
-    listed-requires
+    edge-in-requires
     push-requires
     (λ c. search needs)
     (λ c. search needs)

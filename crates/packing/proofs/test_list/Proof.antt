@@ -34,13 +34,13 @@ loop-holds : tie.Need-loop-holds Inv-loop μ-loop
 loop-holds c = record { inside = omega arith; before = none; ranked = ranked-none; left = search needs }
 
 -- the edges left begin with the edge that was read
-here : (c : tie.After-listed Inv-loop μ-loop) →
+here : (c : tie.After-edge-in Inv-loop μ-loop) →
     let i = c .before .before .loop .i in
     let edges = now (c .before .before .before .before .args .edges) in
-    threes (drop (3 * i) edges) ≡ edgeOf (c .listed .result) ∷ threes (drop (3 * i + 3) edges)
+    threes (drop (3 * i) edges) ≡ edgeOf (c .edge-in .result) ∷ threes (drop (3 * i + 3) edges)
 here c =
     let edges = now (c .before .before .before .before .args .edges) in
-    threes-cons edges (3 * c .before .before .loop .i) (omega arith) ∙ rw (c .listed .ensures .0)
+    threes-cons edges (3 * c .before .before .loop .i) (omega arith) ∙ rw (c .edge-in .ensures .0)
 
 returns : tie.Need-returns Inv-loop μ-loop
 returns c =
@@ -49,7 +49,7 @@ returns c =
     let inv = read .before .before .loop .inv in
     let g = c .enum-told2 .given in
     ap faultOf (g .1)
-    ∙ fault-here _ _ _ (inv .before) (edgeOf (read .listed .result)) _ _ (sym (ap faultOf (g .1)) ∙ tested .test .ensures (inv .before) (inv .ranked))
+    ∙ fault-here _ _ _ (inv .before) (edgeOf (read .edge-in .result)) _ _ (sym (ap faultOf (g .1)) ∙ tested .test .ensures (inv .before) (inv .ranked))
     ∙ sym (inv .left ∙ ap (firstFault _ _ (inv .before) _) (here read))
 
 loop-again : tie.Need-loop-again Inv-loop μ-loop
@@ -57,13 +57,13 @@ loop-again c =
     let tested = c .before .before .before in
     let read = tested .before in
     let loop = read .before .before .loop in
-    let edge = edgeOf (read .listed .result) in
+    let edge = edgeOf (read .edge-in .result) in
     let clear = sym (ap faultOf (c .before .enum-told .given .1)) ∙ tested .test .ensures (loop .inv .before) (loop .inv .ranked) in
     let next : 3 * (loop .i + 1) ≡ 3 * loop .i + 3 = omega arith in
     record {
       inside = omega arith;
       before = some edge;
-      ranked = ranked-edge _ edge (c .rank .ensures) (read .listed .ensures .1 .label);
+      ranked = ranked-edge _ edge (c .rank .ensures) (read .edge-in .ensures .1 .label);
       left = loop .inv .left ∙ rw (here read, next) (fault-next _ _ _ (loop .inv .before) edge _ clear);
     }
 
@@ -83,11 +83,11 @@ test-list-spec =
     μ-loop
     loop-holds
     (λ c κs. omega arith)
-    (λ c κs. c .listed .ensures .1)
+    (λ c κs. c .edge-in .ensures .1)
     (λ c. search needs)
     (λ c. search needs)
     returns
-    (λ c κs. c .before .before .before .listed .ensures .1)
+    (λ c κs. c .before .before .before .edge-in .ensures .1)
     (λ c. omega arith)
     (λ c. omega arith)
     loop-again

@@ -12,7 +12,7 @@ use denote.Ref.{now}
 use lib.Dec.{eqb, leb, ltb}
 use lib.ListN.{length}
 use Rattle.meaning.specs.Filter.{Filter}
-use Rattle.layout.specs.Layout.{bytesFor, fileBits, fileLength, lengthOf, threes, listed}
+use Rattle.layout.specs.Layout.{bytesFor, fileBits, fileLength, lengthOf, threes, fromLists}
 use Rattle.refusals.specs.Refusals.{accepted, firstOf, roomTest}
 use Rattle.edges.specs.Faults.{firstFault, edgesThen, placeInList}
 use Rattle.files.specs.Files.{holdable, writeTests, writeOf}
@@ -39,7 +39,7 @@ abbrev edges : tie.Start → List ℕ
 edges c = now (c .args .edges)
 
 abbrev F : tie.Start → Filter
-F c = listed (colours c) (edges c) (c .args .m) (c .args .start)
+F c = fromLists (colours c) (edges c) (c .args .m) (c .args .start)
 
 -- ---- the tests that were passed
 

@@ -12,7 +12,7 @@ use Rattle.bits.specs.Bits.{Bytes, putField}
 use Rattle.pen.specs.Runs.{putFields}
 use Rattle.meaning.specs.Filter.{Filter}
 use Rattle.layout.specs.Layout as Layout
-use Rattle.layout.specs.Layout.{fileBits, bytesFor, fileLength, fillBits, edgeWidths, lengthOf, threes, listed}
+use Rattle.layout.specs.Layout.{fileBits, bytesFor, fileLength, fillBits, edgeWidths, lengthOf, threes, fromLists}
 use Rattle.layout.proofs.Bounds.{colours-high}
 use Rattle.files.specs.Tests.{Written}
 use Rattle.files.specs.Written.{header-fit, colours-fit, edges-fit, states≤256, count≤65536, written-laid}
@@ -21,7 +21,7 @@ use Rattle.packing.proofs.write.Statement.{statement}
 use Rattle.packing.proofs.write.Tie as tie
 
 abbrev F : tie.Start → Filter
-F c = listed (now (c .args .colours)) (now (c .args .edges)) (c .args .m) (c .args .start)
+F c = fromLists (now (c .args .colours)) (now (c .args .edges)) (c .args .m) (c .args .start)
 
 passed : (c : tie.Start) → Written (c .args .p) (F c) (eqb (length (now (c .args .edges)) % 3) 0) (length (now (c .args .room))) (lengthOf (c .args .p) (F c) ∷ [])
 passed c = pack-passed (c .args .p) (c .pre .0) (now (c .args .colours)) (now (c .args .edges)) (c .args .m) (c .args .start) (length (now (c .args .room))) _ (c .pre .1)

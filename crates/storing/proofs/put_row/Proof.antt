@@ -72,7 +72,7 @@ target-requires c κs = (c .lowest .ensures .0, omega (arith, row-there (c .befo
 shared-slice-read-wide-2 : tie.Need-shared-slice-read-wide-2 Inv-loop μ-loop
 shared-slice-read-wide-2 c =
     let pre = start₁ (c .before .before .before .before .before .before) .pre in
-    pre .rows .listed _ _ _ (pre .state) (found (c .before))
+    pre .rows .in-list _ _ _ (pre .state) (found (c .before))
 
 push-requires : tie.Need-push-requires Inv-loop μ-loop
 push-requires c κs =

@@ -113,7 +113,7 @@ put-edges-requires c κs =
         states = can .states;
         rows = can .rows;
         label = λ k y t h e. omega (arith, can .label k y t h e, passed start .writable .labels-high);
-        listed = can .listed;
+        in-list = can .in-list;
         target = can .target;
       },
       omega (arith, same, c .edges-begin .ensures .0, rw (count start) at (passed start .roomy)),

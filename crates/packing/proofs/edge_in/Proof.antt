@@ -1,8 +1,8 @@
--- `packing::listed` meets its contract. Assumes nothing.
+-- `packing::edge_in` meets its contract. Assumes nothing.
 use mathlib.Core.Path.{refl}
 use borrow.Author.Needs.{needs}
-use Rattle.packing.proofs.listed.Statement.{statement}
-use Rattle.packing.proofs.listed.Tie as tie
+use Rattle.packing.proofs.edge_in.Statement.{statement}
+use Rattle.packing.proofs.edge_in.Tie as tie
 
 returns : tie.Need-returns
 returns c =
@@ -11,8 +11,8 @@ returns c =
     let target = c .wide-byte3 .ensures in
     (rw (source .0, label .0, target .0), record { source = source .1; label = label .1; target = target .1 })
 
-pub listed-spec : {M : Type 1} → statement M
-listed-spec =
+pub edge-in-spec : {M : Type 1} → statement M
+edge-in-spec =
     tie.close
     (tie.spec
     (λ c. search needs)

@@ -1,0 +1,44 @@
+-- The refusals of the other calls: a number of at most two digits, and a place below 65,536. So place times 256 plus the number fits 64
+-- bits.
+-- Assumes nothing.
+use Prim.Native.Nat.{ℕ, _*_, _≤_}
+use mathlib.Core.Path.{_≡_, refl}
+use mathlib.Core.List.{List}
+use mathlib.Core.Option.{none}
+use native.Mathlib.Nat.{mul-le-mul}
+use native.Mathlib.Omega.{arith}
+use lib.ListN.{length}
+use borrow.Author.Tests.{ltb-false, not-false}
+use Rattle.meaning.specs.Cases.{and-left}
+use Rattle.meaning.specs.Filter.{states}
+use Rattle.layout.specs.Layout.{large, fromLists}
+use Rattle.refusals.specs.Refusals.{roomTest}
+use Rattle.edges.specs.Faults.{firstFault}
+use Rattle.files.specs.Files.{checkOf, holdable, writeTests, writeOf}
+use Rattle.files.specs.Tests.{held}
+use Rattle.files.specs.Places.{Small, small-accepted, small-first, small-onward, fault-small, small-edges, check-small}
+use Rattle.unpacking.specs.Promise.{unpackTests, unpackOf}
+use Rattle.unpacking.specs.Promise as unpacking
+use Rattle.packing.specs.Promise.{packOf}
+use Rattle.reduction.specs.Reducing.{reduceTests, reduceOf}
+use Rattle.folding.specs.Folding as folding
+
+pub unpack-small : (s : List ℕ) (room : unpacking.Rooms) → Small (unpackOf large s room)
+unfolding unpackOf
+unpack-small s room = small-onward (checkOf large s) _ (check-small s) (small-first (unpackTests large s room) _ refl (λ _. small-accepted _))
+
+pub pack-small : (cs es : List ℕ) (m st room : ℕ) → Small (packOf large cs es m st room)
+unfolding packOf writeOf writeTests
+pack-small cs es m st room =
+    let F = fromLists cs es m st in
+    small-first (writeTests large F _) _ refl λ p.
+    let h = held large cs m (and-left (holdable large cs m) _ (not-false _ (p .0))) in
+    let most : states F * m ≤ 256 * 64 = mul-le-mul (h .states-high) (h .labels-high) in
+    let few = ltb-false (states F * m) (length (F .edges)) (p .1 .1 .0) in
+    small-edges (firstFault (states F) m none 0 (F .edges)) _
+    (λ f e. let r = fault-small (states F) m 0 none (F .edges) f e in (r .0, omega (arith, r .1, most, few)))
+    (small-first (roomTest _ room) _ refl (λ _. small-accepted _))
+
+pub reduce-small : (s : List ℕ) (room : folding.Rooms) → Small (reduceOf large s room)
+unfolding reduceOf
+reduce-small s room = small-onward (checkOf large s) _ (check-small s) (small-first (reduceTests large s room) _ refl (λ _. small-accepted _))

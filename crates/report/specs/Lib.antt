@@ -1,0 +1,3 @@
+pub mod Report
+-- Theorems.
+pub mod Longest

@@ -1,0 +1,3 @@
+pub mod Shrunk
+-- Theorems.
+pub mod Longest
