@@ -1,11 +1,13 @@
 -- The marked rides: one claim over a list of them, about the definitions that the calls' contracts cite.
 -- Assumes nothing.
 use Prim.Native.Nat.{ℕ, _+_}
-use mathlib.Core.Path.{_≡_, refl}
+use mathlib.Core.Path.{_≡_, refl, sym, ap, _∙_}
 use mathlib.Core.List.{List, [], _∷_, map}
+use mathlib.Core.Option.{none, some}
 use lib.ListN.{length}
 use Rattle.bits.specs.Bits.{bitAt, field, splice, putBit, putField}
 use Rattle.pen.specs.Runs.{fields, putFields}
+use Rattle.meaning.specs.Cases.{impossible}
 use Rattle.meaning.specs.Filter.{inside, comesBefore, samePlace}
 use Rattle.meaning.specs.Search.{any, least, count, tab}
 use Rattle.meaning.specs.Classes.{initial, parted, first, free, groups, split, round, chosen, begin, cut, run, reduction, classes, number}
@@ -20,6 +22,7 @@ use Rattle.observed.specs.Observed.{firstOutside}
 use Rattle.tracing.specs.Tracing.{traceOf}
 use Rattle.folding.specs.Folding.{rooms, countsOf}
 use Rattle.reduction.specs.Reducing.{reduceOf}
+use Rattle.demands.specs.Demand3.{reducedFile, Traces}
 
 -- The bytes of a file; a refusal, or n, m, start and e; of an accepted file its colours, its edges as bytes, and the bytes that
 -- packing these gives; what reducing it answers, the reduced file, and the new number of each state; and observations with what
@@ -189,3 +192,18 @@ done r =
 pub rides-hold : map done rides ≡ rides
 unfolding done reduceOf countsOf classList any least count tab initial parted first free groups split round chosen begin cut run reduction classes number apart conflict live reduce nameOf mapped class-edge edge′ cell row listed merged reduced distinct bitAt field splice putBit putField fields putFields inside comesBefore samePlace headerBits edgeBits edgesBegin fileBits bytesFor fileLength fillBits edgeWidths fileWidths flat fileValues lengthOf written statesIn labelsIn startIn countIn coloursIn edgeAt edgesFrom edgesIn filterIn lengthIn fillingIn edgeFault firstFault fileTests checkOf target edge colour ridden halted shown stops firstOutside traceOf
 rides-hold = refl
+
+-- ---- the two filters need not trace the same sequences
+
+file-K′ : reducedFile large (K .file) ≡ bytesK′
+unfolding any least count tab initial parted first free groups split round chosen begin cut run reduction classes number apart conflict live reduce nameOf mapped class-edge edge′ cell row listed merged reduced target edge colour bitAt field splice putBit putField fields putFields headerBits edgeBits edgesBegin fileBits bytesFor fileLength fillBits edgeWidths fileWidths flat fileValues lengthOf written statesIn labelsIn startIn countIn coloursIn edgeAt edgesFrom edgesIn filterIn
+file-K′ = refl
+
+stops-K : (stops (filterIn large bytesK′) (0 ∷ 1 ∷ []) ≡ none) × (stops (filterIn large (K .file)) (0 ∷ 1 ∷ []) ≡ some 1)
+unfolding target edge halted stops bitAt field fields headerBits edgeBits edgesBegin statesIn labelsIn startIn countIn coloursIn edgeAt edgesFrom edgesIn filterIn
+stops-K = (refl, refl)
+
+-- K reduced traces 0, 1, and K does not.
+pub reduced-traces-more : Traces large (reducedFile large (K .file)) (0 ∷ 1 ∷ []) × (Traces large (K .file) (0 ∷ 1 ∷ []) → ⊥)
+reduced-traces-more =
+    (ap (λ (s : List ℕ). stops (filterIn large s) (0 ∷ 1 ∷ [])) file-K′ ∙ stops-K .0, λ h. let both = sym h ∙ stops-K .1 in impossible cc)

@@ -64,6 +64,7 @@ pub fn first_parted(
     while c < n {
         // A class is named by one of its members, so what is not its own name has no members to look at.
         if names[c] == c as u16 {
+            // That there is a pair is enough here: a round takes the class, and grouping judges every pair of it by itself.
             let found = pair_in(targets, labels, names, next, n, c);
             if let Found::Pair(_, _) = found {
                 return c;

@@ -1,9 +1,9 @@
 -- Laws of the ride, one observation further.
 -- Assumes nothing.
-use mathlib.Core.Path.{_≡_, refl, sym, ap, ap₂, _∙_}
+use mathlib.Core.Path.{_≡_, refl, sym, ap, ap₂, subst, _∙_}
 use mathlib.Core.List.{List, [], _∷_, _++_, append-assoc}
 use mathlib.Core.Option.{Option, none, some}
-use Prim.Native.Nat.{ℕ, _+_, _≤_, _<_}
+use Prim.Native.Nat.{ℕ, _+_, _-_, _≤_, _<_}
 use native.Mathlib.Numerals.{add-one}
 use native.Mathlib.Omega.{arith}
 use lib.ListN.{length, getD, set, take, drop, length-append, length-set, drop-of-length-le}
@@ -18,8 +18,10 @@ use Rattle.table.specs.Table.{Table, look}
 use Rattle.observed.proofs.Laws.{from, from-later, from-zero}
 use Rattle.tracing.specs.declared.Ride.{Ride}
 use Rattle.tracing.specs.declared.Traced.the-variants as traced
-use Rattle.tracing.specs.Answers.{rideOutcome, onto, stop, courseOf}
-use Rattle.tracing.specs.Riding.{Stand, Ridable, Ridden}
+use Rattle.tracing.specs.declared.Step.{Step}
+use Rattle.tracing.specs.declared.Step.the-variants as step
+use Rattle.tracing.specs.Answers.{rideOutcome}
+use Rattle.tracing.specs.Riding.{onto, stop, stepCourse, courseOf, Stand, Ridable, Ridden}
 
 -- ---- a step
 
@@ -97,46 +99,55 @@ module _ (next : ℕ → ℕ → Option ℕ) (hue : ℕ → ℕ) where
 
 module _ (T : Table) (hues : List ℕ) (start : ℕ) (ys room₀ : List ℕ) where
   -- A ride in progress, in a state that it can be in.
-  pub record Underway (room : List ℕ) (ride : Ride) (i : ℕ) : Type 0 where
-    pub within : i ≤ length ys
-    pub taken : ride .taken ≡ i
+  pub record Underway (room : List ℕ) (ride : Ride) : Type 0 where
+    pub within : ride .taken ≤ length ys
     pub stand : Stand T hues (ride .state)
     pub same : length room ≡ length room₀
-    pub riding : Riding (look T) (at hues) start ys room₀ room i (ride .state)
+    pub riding : Riding (look T) (at hues) start ys room₀ room (ride .taken) (ride .state)
 
-  pub underway-begins : Stand T hues start → Underway room₀ (record { state = start; taken = 0 }) 0
+  pub underway-begins : Stand T hues start → Underway room₀ (record { state = start; taken = 0 })
   underway-begins h = record {
     within = omega arith;
-    taken = refl;
     stand = h;
     same = refl;
     riding = riding-begins (look T) (at hues) start ys room₀;
   }
 
-  module _ (asked : Ridable T hues start ys room₀) (room : List ℕ) (ride : Ride) (i : ℕ) (u : Underway room ride i) where
-    pub underway-ends : length ys ≤ i → Ridden T hues start ys room₀ traced.All (set room i (at hues (ride .state)))
+  module _ (asked : Ridable T hues start ys room₀) (room : List ℕ) (ride : Ride) (u : Underway room ride) where
+    -- the room with the colour of the state that the ride is in
+    abbrev put-here : List ℕ
+    put-here = set room (ride .taken) (at hues (ride .state))
+
+    pub underway-ends : length ys ≤ ride .taken → Ridden T hues start ys room₀ traced.All put-here
     underway-ends l =
-        let end = riding-ends (look T) (at hues) start ys room₀ room i (ride .state) (u .riding) l (omega (arith, asked .roomy, u .within)) in
+        let end = riding-ends (look T) (at hues) start ys room₀ room (ride .taken) (ride .state) (u .riding) l (omega (arith, asked .roomy, u .within)) in
         record { answer = ap rideOutcome (sym (end .1)); colours = end .0 }
 
-    module _ (more : i < length ys) (label : ℕ) (is : label ≡ at ys i) where
-      pub underway-on : (next : Ride) → onto (next .state) (next .taken) ≡ courseOf (look T (ride .state) label) (ride .taken) →
-          Underway (set room i (at hues (ride .state))) next (i + 1)
-      underway-on next course =
-          let to = course-onto (look T (ride .state) label) (ride .taken) (next .state) (next .taken) course in
+    -- One step of the ride, at the next observation.
+    module _ (more : ride .taken < length ys) (label : ℕ) (is : label ≡ at ys (ride .taken)) (taken : Step)
+        (leads : stepCourse taken ≡ courseOf (look T (ride .state) label) (ride .taken)) where
+      onward : (next : Ride) → taken ≡ step.Next next → (look T (ride .state) label ≡ some (next .state)) × (next .taken ≡ ride .taken + 1)
+      onward next e = course-onto (look T (ride .state) label) (ride .taken) (next .state) (next .taken) (sym (ap stepCourse e) ∙ leads)
+
+      pub underway-on : (next : Ride) → taken ≡ step.Next next → Underway put-here next
+      underway-on next e =
+          let to = onward next e in
           record {
-            within = omega arith;
-            taken = omega (arith, to .1, u .taken);
+            within = omega (arith, to .1);
             stand = asked .leads (ride .state) label (next .state) (to .0);
-            same = length-set room i (at hues (ride .state)) ∙ u .same;
+            same = length-set room (ride .taken) (at hues (ride .state)) ∙ u .same;
             riding =
-                riding-on (look T) (at hues) start ys room₀ room i (ride .state) (u .riding) (next .state) more (omega (arith, asked .roomy))
-                (ap (look T (ride .state)) (sym is) ∙ to .0);
+                subst (λ (k : ℕ). Riding (look T) (at hues) start ys room₀ put-here k (next .state)) (sym (to .1))
+                (riding-on (look T) (at hues) start ys room₀ room (ride .taken) (ride .state) (u .riding) (next .state) more (omega (arith, asked .roomy))
+                (ap (look T (ride .state)) (sym is) ∙ to .0));
           }
 
-      pub underway-stops : (k : ℕ) → stop k ≡ courseOf (look T (ride .state) label) (ride .taken) →
-          Ridden T hues start ys room₀ (traced.Stopped i) (set room i (at hues (ride .state)))
-      underway-stops k course =
-          let no = course-stop (look T (ride .state) label) (ride .taken) k course in
-          let end = riding-stops (look T) (at hues) start ys room₀ room i (ride .state) (u .riding) more (omega (arith, asked .roomy)) (ap (look T (ride .state)) (sym is) ∙ no .0) in
-          record { answer = ap rideOutcome (sym (end .1)); colours = end .0 }
+      pub underway-less : (next : Ride) → taken ≡ step.Next next → length ys - next .taken < length ys - ride .taken
+      underway-less next e = omega (arith, onward next e .1)
+
+      -- the stop that the step hands back is the one that is due
+      pub underway-stops : (k : ℕ) → taken ≡ step.Stopped k → Ridden T hues start ys room₀ (traced.Stopped k) put-here
+      underway-stops k e =
+          let no = course-stop (look T (ride .state) label) (ride .taken) k (sym (ap stepCourse e) ∙ leads) in
+          let end = riding-stops (look T) (at hues) start ys room₀ room (ride .taken) (ride .state) (u .riding) more (omega (arith, asked .roomy)) (ap (look T (ride .state)) (sym is) ∙ no .0) in
+          record { answer = ap rideOutcome (ap some (no .1) ∙ sym (end .1)); colours = end .0 }

@@ -8,9 +8,8 @@ ghost use Prim.Native.Nat.{_+_, _<_};
 ghost use Rattle.layout.specs.Layout.{large};
 ghost use Rattle.table.specs.Table.{table, look, Rows};
 ghost use Rattle.loading.specs.Loading.{Loadable, Tabled};
-ghost use Rattle.tracing.specs.Answers.{stepCourse, courseOf};
 ghost use Rattle.tracing.specs.Promise.{TracePromise};
-ghost use Rattle.tracing.specs.Riding.{Ridable, Ridden};
+ghost use Rattle.tracing.specs.Riding.{stepCourse, courseOf, Ridable, Ridden};
 
 // All observations traced; or stopped at the first without an edge.
 pub enum Traced {
@@ -151,18 +150,22 @@ fn ride_through(
         state: start,
         taken: 0,
     };
-    let mut i = 0;
-    while i < observations.len() {
+    while ride.taken < observations.len() {
         let state = ride.state;
-        room[i] = hues[state];
-        let step = ride.step(targets, labels, arrays::wide_byte(observations[i]));
-        let Step::Next(next) = step else {
-            return Traced::Stopped(i);
-        };
-        ride = next;
-        i += 1;
+        let taken = ride.taken;
+        room[taken] = hues[state];
+        let step = ride.step(targets, labels, arrays::wide_byte(observations[taken]));
+        match step {
+            Step::Next(next) => {
+                ride = next;
+            }
+            Step::Stopped(at) => {
+                return Traced::Stopped(at);
+            }
+        }
     }
     let last = ride.state;
-    room[i] = hues[last];
+    let taken = ride.taken;
+    room[taken] = hues[last];
     Traced::All
 }
