@@ -7,7 +7,7 @@ TIME ?= 600
 
 run:
 	@mkdir -p target
-	@ABOUT='about two minutes on two cores' .ci/progress target/run.log rt check reduce
+	@ABOUT='two to three minutes on two cores' .ci/progress target/run.log rt check reduce
 	@.ci/run-bin target/bin/reduce <"$(FILE)"
 
 test:
