@@ -3,7 +3,7 @@ FILE ?= examples/k.filter
 PREFIX ?= /usr/local
 TIME ?= 600
 
-.PHONY: run test lib programs install bench soak
+.PHONY: run test lib programs tool install bench soak
 
 run:
 	@mkdir -p target
@@ -22,13 +22,23 @@ programs:
 	@mkdir -p target
 	@.ci/progress target/programs.log rt check reduce shrink trace
 
+# The command pierhollow, in C over the archive: for x86-64 as that is, elsewhere by Debian's cross compiler.
+X86_64_CC := $(if $(filter x86_64,$(shell uname -m)),gcc,x86_64-linux-gnu-gcc -static)
+
+tool: lib
+	@$(MAKE) --no-print-directory target/bin/pierhollow
+
+target/bin/pierhollow: $(wildcard tool/*.c tool/*.h) include/pierhollow.h target/staticlib/libpierhollow.a
+	@mkdir -p target/bin
+	$(X86_64_CC) -std=c99 -D_POSIX_C_SOURCE=200809L -O2 -Wall -Wextra -Werror -pedantic -Iinclude tool/*.c target/staticlib/libpierhollow.a -o $@
+
 # Programs and archive are x86-64; PREFIX and DESTDIR say where they go.
-install: lib programs
+install: lib programs tool
 	install -d "$(DESTDIR)$(PREFIX)/bin" "$(DESTDIR)$(PREFIX)/lib" "$(DESTDIR)$(PREFIX)/include" "$(DESTDIR)$(PREFIX)/share/man/man1"
-	install -m 755 target/bin/reduce target/bin/shrink target/bin/trace "$(DESTDIR)$(PREFIX)/bin"
+	install -m 755 target/bin/pierhollow target/bin/reduce target/bin/shrink target/bin/trace "$(DESTDIR)$(PREFIX)/bin"
 	install -m 644 target/staticlib/libpierhollow.a "$(DESTDIR)$(PREFIX)/lib"
 	install -m 644 include/pierhollow.h "$(DESTDIR)$(PREFIX)/include"
-	install -m 644 man/reduce.1 man/shrink.1 man/trace.1 "$(DESTDIR)$(PREFIX)/share/man/man1"
+	install -m 644 man/pierhollow.1 man/reduce.1 man/shrink.1 man/trace.1 "$(DESTDIR)$(PREFIX)/share/man/man1"
 
 # The library against plain C: ratios, growth, stack and sizes.
 bench: lib

@@ -1,5 +1,5 @@
 /*
- * Compares the archive's five calls with plain C: first the answers, byte for byte, then the time, in alternate runs within this one
+ * Compares the archive's seven calls with plain C: first the answers, byte for byte, then the time, in alternate runs within this one
  * process. Prints tables: ratios, growth with the number of states, and stack. Compiled with PLAIN_COUNT, together with plain.c, it
  * counts plain C's work instead and times nothing.
  */
@@ -22,7 +22,8 @@ enum {
     SHORT_RIDE = 16,
     LONG_RIDE = 65535,
     BEHIND = 64, /* bytes and entries behind each room, which every call must leave as found */
-    FIRST_ROOM = LONG_RIDE + 2 + BEHIND,
+    LONGEST_TEXT = 10 + 16 * MOST_STATES + 23 * MOST_EDGES + 2, /* that a filter is drawn as, or more */
+    FIRST_ROOM = LONGEST_TEXT + 2 + BEHIND,
     SECOND_ROOM = 3 * MOST_EDGES + BEHIND
 };
 
@@ -34,12 +35,29 @@ struct calls {
     uint64_t (*pack)(const uint8_t *, size_t, const uint8_t *, size_t, size_t, size_t, uint8_t *, size_t, uint64_t[1]);
     uint64_t (*trace)(const uint8_t *, size_t, const uint8_t *, size_t, uint8_t *, size_t, uint64_t[2]);
     uint64_t (*reduce)(const uint8_t *, size_t, uint8_t *, size_t, uint16_t *, size_t, uint64_t[4]);
+    uint64_t (*from_dot)(const uint8_t *, size_t, uint8_t *, size_t, uint64_t[1]);
+    uint64_t (*to_dot)(const uint8_t *, size_t, uint8_t *, size_t, uint64_t[1]);
 };
 
-static const struct calls archive = {pierhollow_check, pierhollow_unpack, pierhollow_pack, pierhollow_trace, pierhollow_reduce};
-static const struct calls plain = {plain_check, plain_unpack, plain_pack, plain_trace, plain_reduce};
+static const struct calls archive = {pierhollow_check, pierhollow_unpack, pierhollow_pack, pierhollow_trace, pierhollow_reduce,
+                                     pierhollow_from_dot, pierhollow_to_dot};
+static const struct calls plain = {plain_check, plain_unpack, plain_pack, plain_trace, plain_reduce, plain_from_dot, plain_to_dot};
 
-enum call { CHECK, UNPACK, PACK, TRACE, REDUCE };
+enum call { CHECK, UNPACK, PACK, TRACE, REDUCE, FROM_DOT, TO_DOT, CALLS };
+
+/* What each call is refused for, as a bit a number; the bit of 0 stands for accepting. */
+#define BIT(number) (UINT32_C(1) << (number))
+#define FILE_BITS (BIT(10) - 1) /* 0, and a file's own refusals */
+
+static const uint32_t answers_of[CALLS] = {
+    [CHECK] = FILE_BITS,
+    [UNPACK] = FILE_BITS | BIT(12),
+    [PACK] = BIT(0) | BIT(2) | BIT(3) | BIT(7) | BIT(8) | BIT(9) | BIT(10) | BIT(14),
+    [TRACE] = FILE_BITS | BIT(12) | BIT(13),
+    [REDUCE] = FILE_BITS | BIT(10) | BIT(11),
+    [FROM_DOT] = BIT(0) | BIT(3) | BIT(7) | BIT(8) | BIT(9) | BIT(10) | BIT(14) | BIT(15),
+    [TO_DOT] = FILE_BITS | BIT(10) | BIT(15),
+};
 
 /* One call with all that it is given. `first` and `second` are the lengths of the rooms lent, in bytes or in entries. */
 struct job {
@@ -50,6 +68,8 @@ struct job {
     size_t colours_length, edges_length;
     const uint8_t *observations;
     size_t observations_length;
+    const uint8_t *text;
+    size_t text_length;
     size_t first, second;
 };
 
@@ -86,6 +106,14 @@ static void run(const struct calls *side, const struct job *job, struct outcome 
         out->returned = side->reduce(job->file, job->file_length, out->first, job->first,
                                      out->second.entries, job->second, out->values);
         break;
+    case FROM_DOT:
+        out->returned = side->from_dot(job->text, job->text_length, out->first, job->first, out->values);
+        break;
+    case TO_DOT:
+        out->returned = side->to_dot(job->file, job->file_length, out->first, job->first, out->values);
+        break;
+    case CALLS:
+        break;
     }
 }
 
@@ -114,7 +142,7 @@ static int same(const struct outcome *a, const struct outcome *b, const struct j
 }
 
 static size_t compared;
-static size_t refusals_seen[PIERHOLLOW_LISTS + 1];
+static uint32_t answers_seen[CALLS]; /* a bit a number */
 
 static void compare(const struct job *job, const char *where)
 {
@@ -124,7 +152,7 @@ static void compare(const struct job *job, const char *where)
     run(&archive, job, &from_archive);
     run(&plain, job, &from_plain);
     if (same(&from_archive, &from_plain, job)) {
-        refusals_seen[pierhollow_number(from_plain.returned)]++;
+        answers_seen[job->call] |= BIT(pierhollow_number(from_plain.returned));
         return;
     }
     fprintf(stderr, "bench: the two differ: %s, call %d, returned %" PRIu64 " and %" PRIu64 "\n",
@@ -132,14 +160,65 @@ static void compare(const struct job *job, const char *where)
     exit(1);
 }
 
-/* A filter with its file and what it is traced with, and the jobs over it. */
+/* Drawings that need not be of any filter. */
+
+enum {
+    SKETCH_STATES = 1010, /* more than a text of the profile can have */
+    SKETCH_EDGES = MOST_EDGES + 16,
+    SKETCH_TEXT = LONGEST_TEXT + 16 * SKETCH_STATES
+};
+
+struct sketch {
+    size_t n, e;
+    size_t late; /* states behind the edges, where no text of the profile has any */
+    unsigned colours[SKETCH_STATES];
+    unsigned edges[SKETCH_EDGES][3]; /* source, label, target */
+};
+
+static void sketch_filter(struct sketch *k, const struct filter *f)
+{
+    k->n = f->n;
+    k->e = f->e;
+    k->late = 0;
+    for (size_t s = 0; s < f->n; s++)
+        k->colours[s] = f->colours[s];
+    for (size_t i = 0; i < f->e; i++)
+        for (size_t part = 0; part < 3; part++)
+            k->edges[i][part] = f->edges[3 * i + part];
+}
+
+static char *draw_states(const struct sketch *k, size_t from, size_t to, char *at)
+{
+    for (size_t s = from; s < to; s++)
+        at += sprintf(at, "%zu [label=%u];\n", s, k->colours[s]);
+    return at;
+}
+
+/* Writes a drawing's text, of at most SKETCH_TEXT bytes; answers its length. */
+static size_t draw(const struct sketch *k, uint8_t *text)
+{
+    char *at = (char *)text;
+    at += sprintf(at, "digraph {\n");
+    at = draw_states(k, 0, k->n, at);
+    for (size_t i = 0; i < k->e; i++)
+        at += sprintf(at, "%u -> %u [label=%u];\n", k->edges[i][0], k->edges[i][2], k->edges[i][1]);
+    at = draw_states(k, k->n, k->n + k->late, at);
+    at += sprintf(at, "}\n");
+    return (size_t)(at - (char *)text);
+}
+
+/* A filter with its file, its drawing and what it is traced with, and the jobs over it. */
 
 struct subject {
     struct filter filter;
     uint8_t file[LONGEST_FILE];
     size_t file_length;
+    uint8_t text[2 * SKETCH_TEXT]; /* of the filter's states and edges, whether or not the filter can be drawn */
+    size_t text_length;
     uint8_t ride[LONG_RIDE + 1]; /* one more than a call takes */
 };
+
+static struct sketch sketch;
 
 static void prepare(struct subject *s, size_t ride)
 {
@@ -150,6 +229,8 @@ static void prepare(struct subject *s, size_t ride)
         exit(2);
     }
     s->file_length = (size_t)length;
+    sketch_filter(&sketch, &s->filter);
+    s->text_length = draw(&sketch, s->text);
     make_ride(&s->filter, s->ride, ride, SEED);
 }
 
@@ -157,12 +238,15 @@ static struct job job_of(const struct subject *s, enum call call, size_t observa
 {
     struct job job = {.call = call, .file = s->file, .file_length = s->file_length, .lists = &s->filter,
                       .colours_length = s->filter.n, .edges_length = 3 * s->filter.e,
-                      .observations = s->ride, .observations_length = observations};
+                      .observations = s->ride, .observations_length = observations,
+                      .text = s->text, .text_length = s->text_length};
     if (call == UNPACK) {
         job.first = s->filter.n;
         job.second = 3 * s->filter.e;
-    } else if (call == PACK) {
+    } else if (call == PACK || call == FROM_DOT) {
         job.first = s->file_length;
+    } else if (call == TO_DOT) {
+        job.first = s->text_length;
     } else if (call == TRACE) {
         job.first = observations + 1;
     } else if (call == REDUCE) {
@@ -173,6 +257,8 @@ static struct job job_of(const struct subject *s, enum call call, size_t observa
 }
 
 /* What the tables have a line for. */
+enum { MEASURED_REDUCE = 5 };
+
 static const struct {
     const char *name;
     enum call call;
@@ -184,7 +270,9 @@ static const struct {
     {"pack", PACK, 0, 2.0},
     {"trace 16", TRACE, SHORT_RIDE, 1.5},
     {"trace 65,535", TRACE, LONG_RIDE, 1.5},
-    {"reduce", REDUCE, 0, 1.5},
+    [MEASURED_REDUCE] = {"reduce", REDUCE, 0, 1.5},
+    {"from_dot", FROM_DOT, 0, 2.0},
+    {"to_dot", TO_DOT, 0, 2.0},
 };
 
 enum { MEASURED = sizeof measured / sizeof *measured };
@@ -235,6 +323,10 @@ static void compare_families(void)
         for (size_t k = 0; k < MEASURED; k++) {
             struct job job = job_of(&subjects[i], measured[k].call, measured[k].observations);
             compare(&job, families[i].name);
+            if (from_plain.returned != 0) {
+                fprintf(stderr, "bench: %s would be timed on a filter that it refuses: %s\n", measured[k].name, families[i].name);
+                exit(2);
+            }
         }
     struct job too_long = job_of(&subjects[0], TRACE, LONG_RIDE + 1);
     compare(&too_long, "a ride that is too long");
@@ -246,6 +338,12 @@ static size_t about(size_t wanted, uint64_t *seed)
     if (random_below(seed, 4) != 0)
         return wanted;
     return wanted + random_below(seed, 3) - (wanted > 0);
+}
+
+/* The same, or any shorter one. */
+static size_t room_about(size_t wanted, uint64_t *seed)
+{
+    return random_below(seed, 16) == 0 ? random_below(seed, wanted + 1) : about(wanted, seed);
 }
 
 /* Flips bits of a file, often in its header, and changes its length. */
@@ -271,6 +369,70 @@ static void spoil_lists(struct filter *f, struct job *job, uint64_t *seed)
     job->colours_length = about(job->colours_length, seed);
 }
 
+/* A number that is now and then beyond what a filter may have, or beyond what a byte holds. */
+static unsigned odd_number(uint64_t *seed)
+{
+    static const size_t limits[] = {2, 12, 66, 260, 1000};
+    return (unsigned)random_below(seed, limits[random_below(seed, sizeof limits / sizeof *limits)]);
+}
+
+/* Changes numbers of a drawing, repeats an edge, takes away states or puts one behind the edges. */
+static void spoil_sketch(struct sketch *k, uint64_t *seed)
+{
+    for (size_t times = random_below(seed, 3); times > 0 && k->e > 0; times--)
+        k->edges[random_below(seed, k->e)][random_below(seed, 3)] = odd_number(seed);
+    if (random_below(seed, 16) == 0)
+        k->colours[random_below(seed, k->n)] = odd_number(seed);
+    if (random_below(seed, 8) == 0 && k->e > 0) {
+        memcpy(k->edges[k->e], k->edges[k->e - 1], sizeof *k->edges);
+        k->e++;
+    }
+    if (random_below(seed, 16) == 0)
+        k->n = random_below(seed, k->n + 1);
+    k->late = random_below(seed, 16) == 0;
+}
+
+/* Changes, drops or puts in a byte. */
+static void spoil_byte(struct subject *s, uint64_t *seed)
+{
+    static const char fitting[] = "0123456789 -> [label=];\n}digraph {";
+    uint8_t *at = s->text + random_below(seed, s->text_length);
+    size_t behind = (size_t)(s->text + s->text_length - at);
+    uint8_t byte = random_below(seed, 8) == 0 ? (uint8_t)random_below(seed, 256)
+                                             : (uint8_t)fitting[random_below(seed, sizeof fitting - 1)];
+    switch (random_below(seed, 3)) {
+    case 0:
+        *at = byte;
+        break;
+    case 1:
+        memmove(at, at + 1, behind - 1);
+        s->text_length--;
+        break;
+    default:
+        memmove(at + 1, at, behind);
+        *at = byte;
+        s->text_length++;
+        break;
+    }
+}
+
+/* Draws the filter anew, often as something else, and often outside the profile. */
+static void spoil_text(struct subject *s, uint64_t *seed)
+{
+    sketch_filter(&sketch, &s->filter);
+    spoil_sketch(&sketch, seed);
+    s->text_length = draw(&sketch, s->text);
+    for (size_t times = random_below(seed, 4); times > 1; times--)
+        spoil_byte(s, seed);
+    if (random_below(seed, 16) == 0)
+        s->text_length = random_below(seed, s->text_length);
+    if (random_below(seed, 16) == 0) {
+        size_t more = random_below(seed, s->text_length + 1);
+        memcpy(s->text + s->text_length, s->text, more);
+        s->text_length += more;
+    }
+}
+
 /* One small filter, perhaps spoilt, through all calls, with rooms of which some are too short. */
 static void compare_spoilt(uint64_t *seed)
 {
@@ -278,32 +440,107 @@ static void compare_spoilt(uint64_t *seed)
     static struct subject s;
     make_any(&s.filter, 10, 5, seed);
     prepare(&s, RIDE);
-    struct job jobs[] = {job_of(&s, CHECK, 0), job_of(&s, UNPACK, 0), job_of(&s, PACK, 0),
-                         job_of(&s, TRACE, random_below(seed, RIDE)), job_of(&s, REDUCE, 0)};
+    struct job jobs[] = {job_of(&s, CHECK, 0), job_of(&s, UNPACK, 0), job_of(&s, FROM_DOT, 0), job_of(&s, TO_DOT, 0),
+                         job_of(&s, PACK, 0), job_of(&s, TRACE, random_below(seed, RIDE)), job_of(&s, REDUCE, 0)};
     spoil_file(&s, seed);
+    spoil_text(&s, seed);
     s.ride[random_below(seed, RIDE)] = (uint8_t)random_below(seed, 8);
     for (size_t k = 0; k < sizeof jobs / sizeof *jobs; k++) {
         jobs[k].file_length = s.file_length;
-        jobs[k].first = about(jobs[k].first, seed);
-        jobs[k].second = about(jobs[k].second, seed);
+        jobs[k].text_length = s.text_length;
+        jobs[k].first = room_about(jobs[k].first, seed);
+        jobs[k].second = room_about(jobs[k].second, seed);
         if (jobs[k].call == PACK)
             spoil_lists(&s.filter, &jobs[k], seed);
         compare(&jobs[k], "a spoilt filter");
     }
 }
 
+/* The drawing that has been sketched, with a little room. */
+static void compare_sketch(const char *where)
+{
+    static struct subject s;
+    s.text_length = draw(&sketch, s.text);
+    struct job job = job_of(&s, FROM_DOT, 0);
+    job.first = 1024;
+    compare(&job, where);
+}
+
+/* A drawing of so many states and a loop at each. */
+static void compare_states(size_t n)
+{
+    memset(&sketch, 0, sizeof sketch);
+    sketch.n = n;
+    sketch.e = n;
+    for (size_t i = 0; i < n; i++) {
+        sketch.edges[i][0] = (unsigned)i;
+        sketch.edges[i][2] = (unsigned)i;
+    }
+    compare_sketch("a drawing of many states");
+}
+
+/* Drawings of two states and an edge, with this number for each of the four that it can stand for. */
+static void compare_number(unsigned number)
+{
+    for (size_t part = 0; part < 4; part++) {
+        memset(&sketch, 0, sizeof sketch);
+        sketch.n = 2;
+        sketch.e = 1;
+        if (part < 3)
+            sketch.edges[0][part] = number;
+        else
+            sketch.colours[1] = number;
+        compare_sketch("a drawing with any number");
+    }
+}
+
+/* Every beginning of a small drawing, and every byte of it made every other. */
+static void compare_every_byte(void)
+{
+    static struct subject s;
+    uint64_t seed = SEED;
+    make_any(&s.filter, 3, 2, &seed);
+    while (s.filter.n != 3 || s.filter.e != 4)
+        make_any(&s.filter, 3, 2, &seed);
+    prepare(&s, 0);
+    struct job job = job_of(&s, FROM_DOT, 0);
+    for (job.text_length = 0; job.text_length < s.text_length; job.text_length++)
+        compare(&job, "a text that is cut off");
+    for (size_t i = 0; i < s.text_length; i++) {
+        uint8_t before = s.text[i];
+        for (unsigned byte = 0; byte < 256; byte++) {
+            s.text[i] = (uint8_t)byte;
+            compare(&job, "a text with one byte changed");
+        }
+        s.text[i] = before;
+    }
+}
+
+static void compare_drawings(void)
+{
+    static const size_t states[] = {0, 1, 2, 9, 10, 11, 99, 100, 101, 255, 256, 257, 999, 1000, 1001};
+    for (size_t i = 0; i < sizeof states / sizeof *states; i++)
+        compare_states(states[i]);
+    for (unsigned number = 0; number <= 1000; number++)
+        compare_number(number);
+    compare_every_byte();
+}
+
 static void compare_all(size_t spoilt)
 {
     uint64_t seed = SEED;
     compare_families();
+    compare_drawings();
     for (size_t i = 0; i < spoilt; i++)
         compare_spoilt(&seed);
-    for (size_t number = 0; number <= PIERHOLLOW_LISTS; number++)
-        if (refusals_seen[number] == 0) {
-            fprintf(stderr, "bench: refusal %zu never came up, so the comparison says too little\n", number);
+    for (enum call call = CHECK; call < CALLS; call++)
+        if (answers_seen[call] != answers_of[call]) {
+            fprintf(stderr, "bench: call %d answered with the numbers of the bits %" PRIx32 " and not %" PRIx32 "\n", (int)call,
+                    answers_seen[call], answers_of[call]);
             exit(1);
         }
-    printf("Seed %" PRIx64 ". The same answers and rooms, byte for byte, in %zu calls; all 14 refusals came up.\n\n", SEED, compared);
+    printf("Seed %" PRIx64 ". The same answers and rooms, byte for byte, in %zu calls; every refusal of every call came up.\n\n", SEED,
+           compared);
 }
 
 #ifndef PLAIN_COUNT
@@ -449,9 +686,9 @@ static void print_growth(double allowed)
     printf("| Filter | Call | 16 | 32 | 64 | 128 | 256 | Archive | Plain C |\n|---|---|---|---|---|---|---|--:|--:|\n");
     for (size_t k = 0; k < MEASURED; k++)
         print_growth_of("dense random, 64 labels", make_dense, k, allowed);
-    print_growth_of("sparse, 64 labels", make_sparse, MEASURED - 1, allowed);
-    print_growth_of("chain", make_chain, MEASURED - 1, allowed);
-    print_growth_of("full chain, 64 labels", make_full_chain, MEASURED - 1, allowed);
+    print_growth_of("sparse, 64 labels", make_sparse, MEASURED_REDUCE, allowed);
+    print_growth_of("chain", make_chain, MEASURED_REDUCE, allowed);
+    print_growth_of("full chain, 64 labels", make_full_chain, MEASURED_REDUCE, allowed);
     printf("\n");
 }
 
@@ -528,8 +765,14 @@ static uint64_t no_reduce(const uint8_t *a, size_t b, uint8_t *c, size_t d, uint
     return 0;
 }
 
+static uint64_t no_dot(const uint8_t *a, size_t b, uint8_t *c, size_t d, uint64_t e[1])
+{
+    (void)a, (void)b, (void)c, (void)d, (void)e;
+    return 0;
+}
+
 /* Calls that do nothing: what they touch belongs to the measuring. */
-static const struct calls nothing = {no_check, no_unpack, no_pack, no_trace, no_reduce};
+static const struct calls nothing = {no_check, no_unpack, no_pack, no_trace, no_reduce, no_dot, no_dot};
 
 static void print_stack(void)
 {

@@ -1,5 +1,5 @@
 /*
- * The five calls of pierhollow.h once more, as plain C written for speed: the yardstick of the benchmark, with no proofs. Arguments,
+ * The seven calls of pierhollow.h once more, as plain C written for speed: the yardstick of the benchmark, with no proofs. Arguments,
  * answers and refusals are those that pierhollow.h describes.
  */
 #ifndef PLAIN_H
@@ -31,6 +31,14 @@ uint64_t plain_reduce(const uint8_t *file, size_t file_length,
                       uint8_t *answer, size_t answer_length,
                       uint16_t *classes, size_t classes_length,
                       uint64_t values[4]);
+
+uint64_t plain_from_dot(const uint8_t *text, size_t text_length,
+                        uint8_t *room, size_t room_length,
+                        uint64_t values[1]);
+
+uint64_t plain_to_dot(const uint8_t *file, size_t file_length,
+                      uint8_t *room, size_t room_length,
+                      uint64_t values[1]);
 
 /* Work done since the counters were last set to 0. They stay 0 unless plain.c is compiled with PLAIN_COUNT. */
 struct plain_counts {

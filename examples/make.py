@@ -1,10 +1,12 @@
 #!/usr/bin/env python3
-"""Writes the example filters that README.md lists.
+"""Writes the example filters that README.md lists, and draws them.
 
-    make.py [--into FOLDER] [--shrink COMMAND]
+    make.py [--into FOLDER] [--shrink COMMAND] [--pictures]
 
-Each NAME.filter goes into FOLDER, which is the script's own unless said otherwise. Nothing is reduced here: with --shrink,
-COMMAND is given each file on its standard input, and what it writes becomes NAME.reduced.filter.
+Each NAME.filter goes into FOLDER, which is the script's own unless said otherwise, and its drawing, NAME.dot, beside it.
+Nothing is reduced here: with --shrink, COMMAND is given each file on its standard input, and what it writes becomes
+NAME.reduced.filter, with NAME.reduced.dot beside it. With --pictures, Graphviz makes an .svg of each drawing that has few
+enough states.
 """
 
 import argparse
@@ -15,11 +17,12 @@ from typing import NamedTuple
 
 
 class Filter(NamedTuple):
-    """The start is state 0; edges are (source, label, target), ascending."""
+    """Edges are (source, label, target), ascending."""
 
     labels: int
     colours: list
     edges: list
+    start: int = 0
 
 
 # The file: fields one after another, most significant bit first, then zero bits to the end of the byte.
@@ -32,12 +35,57 @@ def field(value, bits):
 
 
 def packed(made):
-    row = field(len(made.colours) - 1, 8) + field(made.labels - 1, 6) + field(0, 8) + field(len(made.edges), 15)
+    row = field(len(made.colours) - 1, 8) + field(made.labels - 1, 6)
+    row += field(made.start, 8) + field(len(made.edges), 15)
     row += "".join(field(colour, 6) for colour in made.colours)
     for source, label, target in made.edges:
         row += field(source, 8) + field(label, 6) + field(target, 8)
     row += "0" * (-len(row) % 8)
     return bytes(int(row[at : at + 8], 2) for at in range(0, len(row), 8))
+
+
+def unpacked(file):
+    row = "".join(format(byte, "08b") for byte in file)
+    at = 0
+
+    def number(bits):
+        nonlocal at
+        at += bits
+        return int(row[at - bits : at], 2)
+
+    states, labels, start, edges = number(8) + 1, number(6) + 1, number(8), number(15)
+    colours = [number(6) for _ in range(states)]
+    return Filter(labels, colours, [(number(8), number(6), number(8)) for _ in range(edges)], start)
+
+
+# The drawing: a line a state with its colour, then a line an edge with its label. It says neither the start nor the number
+# of labels.
+
+
+def drawn(made):
+    """The text, or None where it would not say all of the filter."""
+    used = max((label for _, label, _ in made.edges), default=0) + 1
+    if made.start != 0 or made.labels != used:
+        return None
+    lines = ["digraph {"]
+    lines += [f"{state} [label={colour}];" for state, colour in enumerate(made.colours)]
+    lines += [f"{source} -> {target} [label={label}];" for source, label, target in made.edges]
+    lines += ["}"]
+    return "".join(line + "\n" for line in lines)
+
+
+# The picture: a state shows its number and, in brackets, its colour, which it is also filled by; the start is thick.
+
+MOST_IN_A_PICTURE = 60
+
+DRESSED = r"""N { fillcolor = 1 + (int)label % 12; label = sprintf("%s\\n[%s]", name, label); } N [name == "0"] { penwidth = 3; }"""
+
+STYLE = ["-Nshape=circle", "-Nstyle=filled", "-Ncolorscheme=set312", "-Nmargin=0.02"]
+
+
+def picture(drawing):
+    dressed = subprocess.run(["gvpr", "-c", DRESSED], input=drawing.encode(), stdout=subprocess.PIPE, check=True)
+    return subprocess.run(["dot", "-Tsvg", *STYLE], input=dressed.stdout, stdout=subprocess.PIPE, check=True).stdout
 
 
 # Filters from what they are about.
@@ -180,16 +228,28 @@ def shrunk(command, file):
     return done.stdout
 
 
+def write(into, name, file, pictures):
+    (into / f"{name}.filter").write_bytes(file)
+    made = unpacked(file)
+    drawing = drawn(made)
+    if drawing is None:
+        return
+    (into / f"{name}.dot").write_bytes(drawing.encode())
+    if pictures and len(made.colours) <= MOST_IN_A_PICTURE:
+        (into / f"{name}.svg").write_bytes(picture(drawing))
+
+
 def main():
-    parser = argparse.ArgumentParser(description="Writes the example filters.")
+    parser = argparse.ArgumentParser(description="Writes the example filters, and draws them.")
     parser.add_argument("--into", metavar="FOLDER", type=pathlib.Path, default=pathlib.Path(__file__).parent)
     parser.add_argument("--shrink", metavar="COMMAND", help="writes the reduced files too, by this command")
+    parser.add_argument("--pictures", action="store_true", help="writes pictures of the drawings too, by Graphviz")
     wanted = parser.parse_args()
     for name, made in EXAMPLES.items():
         file = packed(made)
-        (wanted.into / f"{name}.filter").write_bytes(file)
+        write(wanted.into, name, file, wanted.pictures)
         if wanted.shrink:
-            (wanted.into / f"{name}.reduced.filter").write_bytes(shrunk(wanted.shrink, file))
+            write(wanted.into, f"{name}.reduced", shrunk(wanted.shrink, file), wanted.pictures)
 
 
 if __name__ == "__main__":

@@ -2,9 +2,9 @@
  * Pierhollow: combinatorial filters, read, written, traced and reduced.
  *
  * Every call returns 0 where it accepts. A refusal returns its place times 256 plus its number: use
- * pierhollow_number() and pierhollow_place(). A refusal changes nothing that was lent to the call: no
- * byte, no entry, no value. Where a call accepts, it writes to the front of its rooms and leaves the rest
- * of them as found.
+ * pierhollow_number() and pierhollow_place(). A place of 2^56 or more, which only a text of that length
+ * could have, is told as 2^56 - 1. A refusal changes nothing that was lent to the call: no byte, no entry,
+ * no value. Where a call accepts, it writes to the front of its rooms and leaves the rest of them as found.
  *
  * A room is a pointer and the number of its elements. NULL with 0 elements is an empty room, and nothing
  * else may be NULL. What is lent to be written must not overlap anything else that is lent to the same
@@ -35,11 +35,15 @@ enum pierhollow_refusal {
     PIERHOLLOW_OUTSIDE = 7,      /* an edge's source or target is n or more, or its label m or more; place: the edge's index */
     PIERHOLLOW_ORDER = 8,        /* an edge comes before the edge before it; place: the edge's index */
     PIERHOLLOW_REPEATED = 9,     /* an edge has source and label of the edge before it; place: the edge's index */
-    PIERHOLLOW_ANSWER_ROOM = 10, /* reduce: answer room shorter than the file; pack: shorter than what is written */
+    PIERHOLLOW_ANSWER_ROOM = 10, /* reduce: answer room shorter than the file; pack, from_dot, to_dot: shorter than what is written */
     PIERHOLLOW_CLASS_ROOM = 11,  /* reduce: fewer class entries than n */
     PIERHOLLOW_ROOM = 12,        /* unpack: a room is too short; trace: more than 65,535 observations or a short room */
     PIERHOLLOW_OBSERVATION = 13, /* trace: an observation is m or more; place: the index of the first */
-    PIERHOLLOW_LISTS = 14        /* pack: not 1 to 256 colours, m not 1 to 64, a colour above 63, or edge bytes no multiple of 3 */
+    PIERHOLLOW_LISTS = 14,       /* pack: not 1 to 256 colours, m not 1 to 64, a colour above 63, or edge bytes no multiple of 3;
+                                    from_dot: not 1 to 256 states, or a colour or a label above 63 */
+    PIERHOLLOW_DRAWING = 15      /* from_dot: text outside the profile; place: the length of the text's longest beginning that some
+                                    text of the profile also has; to_dot: start is not 0, or m not the largest label plus one
+                                    (without edges: not 1) */
 };
 
 /* The refusal's number in what a call returned; 0 for accepted. */
@@ -54,8 +58,9 @@ static inline uint64_t pierhollow_place(uint64_t returned)
     return returned / 256;
 }
 
-/* The longest filter file, in bytes, and the most states and labels that a file has. */
+/* The longest filter file and the longest drawing of one, in bytes, and the most states and labels that a file has. */
 #define PIERHOLLOW_LONGEST_FILE 45253
+#define PIERHOLLOW_LONGEST_DRAWING 371230
 #define PIERHOLLOW_MOST_STATES 256
 #define PIERHOLLOW_MOST_LABELS 64
 
@@ -105,6 +110,30 @@ uint64_t pierhollow_reduce(const uint8_t *file, size_t file_length,
                            uint8_t *answer, size_t answer_length,
                            uint16_t *classes, size_t classes_length,
                            uint64_t values[4]);
+
+/*
+ * Drawings are texts of a narrow profile of Graphviz's DOT. The line "digraph {"; a line "3 [label=1];" a state, with its
+ * colour, the states ascending from 0 with none missing; a line "0 -> 2 [label=1];" an edge; the line "}". Every line ends
+ * in one newline byte; numbers are decimal, one to three digits, without leading zeros; spaces as shown. The start is state
+ * 0, and m is the largest label plus one, or 1 without edges.
+ */
+
+/*
+ * Writes the file of a drawing. Refusals: 15, then those of pack: 14, 3, then 7, 8 and 9 with the edge's index, then 10.
+ * values: 0 the file's length in bytes.
+ */
+uint64_t pierhollow_from_dot(const uint8_t *text, size_t text_length,
+                             uint8_t *room, size_t room_length,
+                             uint64_t values[1]);
+
+/*
+ * Writes the drawing of a file, edges in file order; from_dot gives the file back. Refusals: the file's own, then 15 with
+ * place 0, then 10.
+ * values: 0 the drawing's length in bytes.
+ */
+uint64_t pierhollow_to_dot(const uint8_t *file, size_t file_length,
+                           uint8_t *room, size_t room_length,
+                           uint64_t values[1]);
 
 #ifdef __cplusplus
 }

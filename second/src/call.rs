@@ -1,5 +1,6 @@
 //! The library's calls: a number, a place, the counts, and the rooms that were lent.
 
+use crate::dot::{self, can_be_drawn, labels_up_to};
 use crate::file::{judge_edges, read, write, Edge, Filter, Refusal};
 use crate::{reduce, trace};
 
@@ -59,18 +60,38 @@ pub fn unpack(file: &[u8], colour_room: &mut [u8], edge_room: &mut [u8]) -> Answ
 
 /// Counts: the file's length and three zeros.
 pub fn pack(colours: &[u8], edges: &[u8], m: u64, start: u64, room: &mut [u8]) -> Answer {
-    let filter = match from_lists(colours, edges, m, start) {
-        Ok(filter) => filter,
-        Err(refusal) => return Answer::refused(refusal),
-    };
-    let file = write(&filter);
-    if room.len() < file.len() {
+    match from_lists(colours, edges, m, start) {
+        Ok(filter) => put(&write(&filter), room),
+        Err(refusal) => Answer::refused(refusal),
+    }
+}
+
+/// Counts: the file's length and three zeros.
+pub fn from_dot(text: &[u8], room: &mut [u8]) -> Answer {
+    match from_text(text) {
+        Ok(filter) => put(&write(&filter), room),
+        Err(refusal) => Answer::refused(refusal),
+    }
+}
+
+/// Counts: the text's length and three zeros.
+pub fn to_dot(file: &[u8], room: &mut [u8]) -> Answer {
+    match read(file) {
+        Ok(filter) if !can_be_drawn(&filter) => Answer::refused(Refusal::new(15)),
+        Ok(filter) => put(dot::write(&filter.colours, &filter.edges).as_bytes(), room),
+        Err(refusal) => Answer::refused(refusal),
+    }
+}
+
+/// What a call writes, at the front of its room.
+fn put(bytes: &[u8], room: &mut [u8]) -> Answer {
+    if room.len() < bytes.len() {
         return Answer::refused(Refusal::new(10));
     }
-    for (i, &byte) in file.iter().enumerate() {
+    for (i, &byte) in bytes.iter().enumerate() {
         room[i] = byte;
     }
-    Answer::accepted([file.len() as u64, 0, 0, 0])
+    Answer::accepted([bytes.len() as u64, 0, 0, 0])
 }
 
 /// Counts: four zeros where the ride is traced; 1, i and two zeros where it stops at i. Fills the room with the colours
@@ -123,14 +144,9 @@ fn sizes(filter: &Filter) -> [u64; 4] {
 }
 
 fn from_lists(colours: &[u8], edges: &[u8], m: u64, start: u64) -> Result<Filter, Refusal> {
-    let n = colours.len() as u64;
-    let colour_too_high = colours.iter().any(|&colour| colour > 63);
     let left_over = edges.len() % 3;
-    if !(1..=256).contains(&n) || !(1..=64).contains(&m) || colour_too_high || left_over != 0 {
+    if left_over != 0 {
         return Err(Refusal::new(14));
-    }
-    if start >= n {
-        return Err(Refusal::new(2));
     }
     let mut list = Vec::new();
     for three in edges.chunks(3) {
@@ -140,14 +156,40 @@ fn from_lists(colours: &[u8], edges: &[u8], m: u64, start: u64) -> Result<Filter
             target: u64::from(three[2]),
         });
     }
-    if list.len() as u64 > n * m {
-        return Err(Refusal::new(3));
-    }
-    judge_edges(&list, n, m)?;
-    Ok(Filter {
+    judged(Filter {
         colours: colours.iter().map(|&colour| u64::from(colour)).collect(),
         m,
         start,
         edges: list,
     })
+}
+
+fn from_text(text: &[u8]) -> Result<Filter, Refusal> {
+    let drawing = dot::read(text).map_err(|place| Refusal {
+        number: 15,
+        place: place as u64,
+    })?;
+    judged(Filter {
+        m: labels_up_to(&drawing.edges),
+        colours: drawing.colours,
+        start: 0,
+        edges: drawing.edges,
+    })
+}
+
+/// The filter that is to be packed, unless pack refuses it.
+fn judged(filter: Filter) -> Result<Filter, Refusal> {
+    let (n, m) = (filter.n(), filter.m);
+    let colour_too_high = filter.colours.iter().any(|&colour| colour > 63);
+    if !(1..=256).contains(&n) || !(1..=64).contains(&m) || colour_too_high {
+        return Err(Refusal::new(14));
+    }
+    if filter.start >= n {
+        return Err(Refusal::new(2));
+    }
+    if filter.e() > n * m {
+        return Err(Refusal::new(3));
+    }
+    judge_edges(&filter.edges, n, m)?;
+    Ok(filter)
 }

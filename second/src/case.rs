@@ -1,6 +1,6 @@
 //! One call with all that is lent to it, and its outcome with all that was lent.
 
-use crate::call::{check, pack, reduce, trace, unpack, Answer};
+use crate::call::{check, from_dot, pack, reduce, to_dot, trace, unpack, Answer};
 
 #[derive(Clone, Copy, Debug, PartialEq, Eq, PartialOrd, Ord)]
 pub enum Call {
@@ -9,15 +9,19 @@ pub enum Call {
     Pack,
     Trace,
     Reduce,
+    FromDot,
+    ToDot,
 }
 
 impl Call {
-    pub const ALL: [Call; 5] = [
+    pub const ALL: [Call; 7] = [
         Call::Check,
         Call::Unpack,
         Call::Pack,
         Call::Trace,
         Call::Reduce,
+        Call::FromDot,
+        Call::ToDot,
     ];
 
     /// The byte that stands for the call in a batch.
@@ -28,6 +32,8 @@ impl Call {
             Call::Pack => 3,
             Call::Trace => 4,
             Call::Reduce => 5,
+            Call::FromDot => 6,
+            Call::ToDot => 7,
         }
     }
 
@@ -39,6 +45,8 @@ impl Call {
             Call::Pack => &[0, 14, 2, 3, 7, 8, 9, 10],
             Call::Trace => &[0, 1, 2, 3, 4, 5, 6, 7, 8, 9, 12, 13],
             Call::Reduce => &[0, 1, 2, 3, 4, 5, 6, 7, 8, 9, 10, 11],
+            Call::FromDot => &[0, 15, 14, 3, 7, 8, 9, 10],
+            Call::ToDot => &[0, 1, 2, 3, 4, 5, 6, 7, 8, 9, 15, 10],
         }
     }
 }
@@ -111,6 +119,28 @@ impl Case {
         }
     }
 
+    pub fn from_dot(text: Vec<u8>, room: Vec<u8>) -> Case {
+        Case {
+            call: Call::FromDot,
+            first: 0,
+            second: 0,
+            a: text,
+            b: Vec::new(),
+            c: room,
+        }
+    }
+
+    pub fn to_dot(file: Vec<u8>, room: Vec<u8>) -> Case {
+        Case {
+            call: Call::ToDot,
+            first: 0,
+            second: 0,
+            a: file,
+            b: Vec::new(),
+            c: room,
+        }
+    }
+
     /// Makes the call.
     pub fn outcome(&self) -> Outcome {
         let mut b = self.b.clone();
@@ -126,6 +156,8 @@ impl Case {
                 put_entries(&entries, &mut c);
                 answer
             }
+            Call::FromDot => from_dot(&self.a, &mut c),
+            Call::ToDot => to_dot(&self.a, &mut c),
         };
         Outcome { answer, b, c }
     }

@@ -2,7 +2,7 @@
 
 use crate::bits::{bytes_of, push, Bits};
 
-/// Why a call says no. Only 7, 8 and 9, and trace's 13, have a place other than 0.
+/// Why a call says no. Only 7, 8 and 9, trace's 13 and the 15 of a text have a place other than 0.
 #[derive(Clone, Copy, Debug, PartialEq, Eq)]
 pub struct Refusal {
     pub number: u8,

@@ -9,7 +9,7 @@ use crate::call::Answer;
 use crate::case::{Call, Case, Outcome};
 
 /// The longest string of a case.
-pub const LONGEST: usize = 131_072;
+pub const LONGEST: usize = 400_000;
 
 pub fn write_batch(cases: &[Case]) -> Vec<u8> {
     let mut bytes = Vec::new();

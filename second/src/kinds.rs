@@ -1,7 +1,8 @@
 //! The kinds of outcome that a run has to hit, so that none is left to luck.
 
 use crate::case::{Call, Case, Outcome};
-use crate::file::Header;
+use crate::dot::{self, labels_up_to, Drawing};
+use crate::file::{read, Header};
 use crate::trace::MOST_OBSERVATIONS;
 
 #[derive(Clone, Copy, Debug, PartialEq, Eq, PartialOrd, Ord)]
@@ -22,6 +23,22 @@ pub enum Kind {
     ManyRounds,
     NothingMerged,
     Merged,
+    /// A text's 15: at its first byte, further on, behind the closing brace, and at its end, where something is missing.
+    AtOnce,
+    Inside,
+    Behind,
+    CutOff,
+    /// A text's 14.
+    NoStates,
+    ManyStates,
+    HighColour,
+    HighLabel,
+    /// A text's 7 by an end that one byte could hold, and by one that it could not.
+    EndOfAByte,
+    HighEnd,
+    /// A filter's 15.
+    OtherStart,
+    UnusedLabel,
 }
 
 /// So many rounds are many; 254 is the most that there can be.
@@ -80,6 +97,23 @@ pub fn all_of(call: Call) -> Vec<Kind> {
             Kind::Merged,
         ]);
     }
+    if call == Call::FromDot {
+        all.extend([
+            Kind::AtOnce,
+            Kind::Inside,
+            Kind::Behind,
+            Kind::CutOff,
+            Kind::NoStates,
+            Kind::ManyStates,
+            Kind::HighColour,
+            Kind::HighLabel,
+            Kind::EndOfAByte,
+            Kind::HighEnd,
+        ]);
+    }
+    if call == Call::ToDot {
+        all.extend([Kind::OtherStart, Kind::UnusedLabel]);
+    }
     all
 }
 
@@ -95,6 +129,8 @@ pub fn of(case: &Case, outcome: &Outcome) -> Vec<Kind> {
     match call {
         Call::Trace => kinds.extend(of_trace(case, outcome)),
         Call::Reduce => kinds.extend(of_reduce(case, outcome)),
+        Call::FromDot => kinds.extend(of_text(case, outcome)),
+        Call::ToDot => kinds.extend(of_drawn(case, outcome)),
         Call::Check | Call::Unpack | Call::Pack => {}
     }
     kinds
@@ -139,11 +175,75 @@ fn of_reduce(case: &Case, outcome: &Outcome) -> Vec<Kind> {
     kinds
 }
 
+fn of_text(case: &Case, outcome: &Outcome) -> Option<Kind> {
+    match outcome.answer.number {
+        15 => Some(of_place(&case.a, outcome.answer.place as usize)),
+        14 => of_sizes(&drawing_of(case)),
+        7 => {
+            let edge = drawing_of(case).edges[outcome.answer.place as usize];
+            Some(if edge.source > 255 || edge.target > 255 {
+                Kind::HighEnd
+            } else {
+                Kind::EndOfAByte
+            })
+        }
+        _ => None,
+    }
+}
+
+fn of_place(text: &[u8], place: usize) -> Kind {
+    if place == text.len() {
+        Kind::CutOff
+    } else if place == 0 {
+        Kind::AtOnce
+    } else if text[..place].ends_with(b"}\n") {
+        Kind::Behind
+    } else {
+        Kind::Inside
+    }
+}
+
+/// The reason of a 14, where there is no other.
+fn of_sizes(drawing: &Drawing) -> Option<Kind> {
+    let states = drawing.colours.len();
+    let reasons = [
+        (Kind::NoStates, states == 0),
+        (Kind::ManyStates, states > 256),
+        (Kind::HighColour, drawing.colours.iter().any(|&c| c > 63)),
+        (Kind::HighLabel, labels_up_to(&drawing.edges) > 64),
+    ];
+    let mut given = reasons.into_iter().filter(|&(_, holds)| holds);
+    match (given.next(), given.next()) {
+        (Some((kind, _)), None) => Some(kind),
+        _ => None,
+    }
+}
+
+/// Of a text that was not refused as one.
+fn drawing_of(case: &Case) -> Drawing {
+    dot::read(&case.a).expect("a text of the profile")
+}
+
+/// The reason of a filter's 15, where there is no other.
+fn of_drawn(case: &Case, outcome: &Outcome) -> Option<Kind> {
+    if outcome.answer.number != 15 {
+        return None;
+    }
+    let filter = read(&case.a).expect("an accepted file");
+    let all_used = filter.m == labels_up_to(&filter.edges);
+    match (filter.start == 0, all_used) {
+        (false, true) => Some(Kind::OtherStart),
+        (true, false) => Some(Kind::UnusedLabel),
+        _ => None,
+    }
+}
+
 fn edges_of(case: &Case) -> u64 {
     match case.call {
-        Call::Check | Call::Unpack | Call::Trace | Call::Reduce => {
+        Call::Check | Call::Unpack | Call::Trace | Call::Reduce | Call::ToDot => {
             Header::of(&case.a).map_or(0, |header| header.e)
         }
         Call::Pack => case.b.len() as u64 / 3,
+        Call::FromDot => drawing_of(case).edges.len() as u64,
     }
 }

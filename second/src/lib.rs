@@ -1,9 +1,10 @@
 //! The independent second program.
 //!
-//! It does what document 01 says, written from that document alone and as plainly as possible, so that it can be
-//! compared byte for byte with the proved programs. It shares no line with the crates of those programs.
+//! It does what documents 01 and 02 say, written from them alone and as plainly as possible, so that it can be compared
+//! byte for byte with the proved programs. It shares no line with the crates of those programs.
 //!
 //! - [`bits`], [`file`]: the filter file, read and written;
+//! - [`dot`], [`dot::by_force`]: filters drawn as texts, and by force where a text leaves their profile;
 //! - [`trace`]: a ride through a filter;
 //! - [`reduce`], [`rounds`]: its reduction, and that round by round as text;
 //! - [`side_by_side`]: whether one filter does another's work, by a search over both;
@@ -27,6 +28,7 @@ pub mod bits;
 pub mod call;
 pub mod case;
 pub mod compare;
+pub mod dot;
 pub mod file;
 pub mod frame;
 pub mod kinds;

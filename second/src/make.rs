@@ -2,13 +2,17 @@
 //! that none is left to luck.
 
 pub mod chains;
+pub mod contents;
 pub mod damage;
 pub mod draft;
+pub mod drawings;
+pub mod edits;
 pub mod files;
 pub mod filters;
 pub mod lists;
 pub mod reduces;
 pub mod rooms;
+pub mod texts;
 pub mod traces;
 
 use crate::case::Case;
@@ -43,7 +47,14 @@ pub fn batch(random: &mut Random) -> Vec<Made> {
             }
         }
     }
-    let of_cases = [lists::FAMILIES, traces::FAMILIES, reduces::FAMILIES];
+    let of_cases = [
+        lists::FAMILIES,
+        traces::FAMILIES,
+        reduces::FAMILIES,
+        texts::FAMILIES,
+        contents::FAMILIES,
+        drawings::FAMILIES,
+    ];
     for family in of_cases.into_iter().flatten() {
         for _ in 0..family.times {
             for case in (family.make)(random) {

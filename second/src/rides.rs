@@ -1,5 +1,5 @@
-//! Document 01's rides: the files and lists byte for byte, and the filters of which it gives no bytes. Then two filters for
-//! one of its errors that look right.
+//! Document 01's rides: the files and lists byte for byte, and the filters of which it gives no bytes; two of the files as
+//! document 02 has them drawn. Then two filters for one of the errors that look right.
 
 use crate::file::{Edge, Filter};
 
@@ -25,6 +25,30 @@ pub const K_COLOURS: &[u8] = &[0, 1, 1];
 pub const K_EDGES: &[u8] = &[0, 0, 1, 0, 1, 2, 1, 0, 0, 2, 1, 0];
 pub const K_REDUCED_COLOURS: &[u8] = &[0, 1];
 pub const K_REDUCED_EDGES: &[u8] = &[0, 0, 1, 0, 1, 1, 1, 0, 0, 1, 1, 0];
+
+pub const K_DRAWN: &str = "digraph {
+0 [label=0];
+1 [label=1];
+2 [label=1];
+0 -> 1 [label=0];
+0 -> 2 [label=1];
+1 -> 0 [label=0];
+2 -> 0 [label=1];
+}
+";
+pub const K_REDUCED_DRAWN: &str = "digraph {
+0 [label=0];
+1 [label=1];
+0 -> 1 [label=0];
+0 -> 1 [label=1];
+1 -> 0 [label=0];
+1 -> 0 [label=1];
+}
+";
+pub const C_DRAWN: &str = "digraph {
+0 [label=0];
+}
+";
 
 /// Tracing these stops at 1 in K and is traced by K reduced.
 pub const K_OBSERVATIONS: &[u8] = &[0, 1];

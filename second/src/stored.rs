@@ -29,11 +29,15 @@ pub fn cases() -> Vec<Case> {
         cases.push(unpack(&file, 3, 12));
         cases.push(trace(&file, K_OBSERVATIONS, 3));
         cases.push(reduce(&file, file.len(), 6));
+        cases.push(to_dot(&file, K_DRAWN.len()));
     }
     cases.extend(refused_by_pack());
     cases.extend(traces());
     cases.extend(ride_r_reduced());
     cases.extend(reduces());
+    cases.extend(drawings());
+    cases.extend(texts_outside());
+    cases.extend(texts_refused_by_pack());
     cases.extend(longer());
     cases
 }
@@ -58,6 +62,14 @@ fn trace(file: &[u8], observations: &[u8], room: usize) -> Case {
 /// Both rooms in bytes.
 fn reduce(file: &[u8], answer_room: usize, class_list: usize) -> Case {
     Case::reduce(file.to_vec(), found(answer_room), found(class_list))
+}
+
+fn from_dot(text: &str, room: usize) -> Case {
+    Case::from_dot(text.as_bytes().to_vec(), found(room))
+}
+
+fn to_dot(file: &[u8], room: usize) -> Case {
+    Case::to_dot(file.to_vec(), found(room))
 }
 
 fn ride_q() -> Vec<Case> {
@@ -215,6 +227,98 @@ fn thinned(n: u64, m: u64, colours: u64) -> Filter {
         .edges
         .retain(|edge| (edge.source * 3 + edge.label * edge.source) % 5 > 1);
     filter
+}
+
+/// Both ways, in rooms that are exact, longer, short by one and empty; then what cannot be drawn: another start, labels
+/// unused at the top, with edges and without, and before the room's refusal.
+fn drawings() -> Vec<Case> {
+    let mut cases = Vec::new();
+    for (file, text) in [(C, C_DRAWN), (K, K_DRAWN), (K_REDUCED, K_REDUCED_DRAWN)] {
+        for room in [text.len(), text.len() + 5, text.len() - 1, 0] {
+            cases.push(to_dot(file, room));
+        }
+        for room in [file.len(), file.len() + 5, file.len() - 1, 0] {
+            cases.push(from_dot(text, room));
+        }
+    }
+    let drawn = ride_n();
+    let other_start = Filter {
+        start: 6,
+        ..drawn.clone()
+    };
+    let unused_label = Filter {
+        m: 3,
+        ..drawn.clone()
+    };
+    for filter in [
+        drawn,
+        other_start,
+        unused_label,
+        regular(2, 2, 0),
+        regular(1, 2, 0),
+    ] {
+        let file = write(&filter);
+        cases.push(to_dot(&file, 250));
+        cases.push(to_dot(&file, 0));
+    }
+    cases
+}
+
+/// At the first byte, inside each kind of line, behind the last, and cut off.
+fn texts_outside() -> Vec<Case> {
+    [
+        "",
+        "Digraph {\n}\n",
+        "digraph\n{\n}\n",
+        "digraph {\r\n}\r\n",
+        "digraph {\n1 [label=0];\n}\n",
+        "digraph {\n00 [label=0];\n}\n",
+        "digraph {\n0  [label=0];\n}\n",
+        "digraph {\n0 [label=07];\n}\n",
+        "digraph {\n0 [label=1000];\n}\n",
+        "digraph {\n0 [label=0];\n0 [label=0];\n}\n",
+        "digraph {\n0 [label=0];\n2 [label=0];\n}\n",
+        "digraph {\n0 [label=0];\n1 -> 1000 [label=0];\n}\n",
+        "digraph {\n0 [label=0];\n1 ->\t0 [label=0];\n}\n",
+        "digraph {\n0 -> 0 [label=0];\n0 [label=0];\n}\n",
+        "digraph {\n0 [label=0];\n}\n\n",
+        "digraph {\n0 [label=0];\n}",
+        "digraph {\n0 [label=0];\n0 -> 1",
+    ]
+    .map(|text| from_dot(text, 20))
+    .to_vec()
+}
+
+/// Each number, with the numbers in the text around what a filter can have; then two at once.
+fn texts_refused_by_pack() -> Vec<Case> {
+    let states =
+        |count: usize| "0 [label=0];\n1 [label=1];\n2 [label=1];\n"[..13 * count].to_string();
+    [
+        (0, ""),
+        (0, "0 -> 0 [label=0];\n"),
+        (1, "1 [label=63];\n"),
+        (1, "1 [label=64];\n"),
+        (1, "1 [label=256];\n"),
+        (1, "0 -> 0 [label=63];\n"),
+        (1, "0 -> 0 [label=64];\n"),
+        (1, "0 -> 0 [label=256];\n"),
+        (1, "0 -> 0 [label=0];\n0 -> 0 [label=0];\n"),
+        (3, "0 -> 3 [label=0];\n"),
+        (3, "0 -> 1 [label=0];\n256 -> 1 [label=0];\n"),
+        (3, "0 -> 1 [label=0];\n1 -> 256 [label=0];\n"),
+        (3, "0 -> 1 [label=0];\n1 -> 999 [label=0];\n"),
+        (3, "0 -> 2 [label=1];\n0 -> 1 [label=0];\n"),
+        (3, "0 -> 1 [label=0];\n0 -> 2 [label=0];\n"),
+        (3, "0 -> 2 [label=1];\n0 -> 9 [label=0];\n"),
+        (3, "9 -> 9 [label=9];\n9 -> 9 [label=64];\n"),
+        (1, "9 -> 9 [label=0];\n9 -> 9 [label=0];\n"),
+    ]
+    .into_iter()
+    .flat_map(|(count, lines)| {
+        let text = format!("digraph {{\n{}{lines}}}\n", states(count));
+        [from_dot(&text, 20), from_dot(&text, 0)]
+    })
+    .collect()
 }
 
 fn longer() -> Vec<Case> {

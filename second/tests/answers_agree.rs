@@ -17,6 +17,15 @@ const LEAST_RIDES: usize = 100_000;
 const LEAST_REDUCED: usize = 20_000;
 /// Those of them with as many states and labels as there can be, and many rounds.
 const LEAST_LONG: usize = 20;
+/// Texts to be read, whether they are of the profile or not.
+const LEAST_TEXTS: usize = 50_000;
+/// Filters that were drawn.
+const LEAST_DRAWN: usize = 3_000;
+/// Those of them of the largest file's sizes, and as many texts of them that were read.
+const LEAST_LARGEST: usize = 20;
+
+/// The bytes of the largest file.
+const LARGEST: u64 = 45_253;
 
 /// How much was tried.
 #[derive(Debug, Default)]
@@ -26,6 +35,10 @@ struct Tally {
     rides: usize,
     reduced: usize,
     long: usize,
+    texts: usize,
+    drawn: usize,
+    largest_drawn: usize,
+    largest_read: usize,
     kinds: BTreeSet<Kind>,
 }
 
@@ -41,6 +54,18 @@ impl Tally {
                 self.reduced += 1;
                 if kinds.contains(&Kind::ManyRounds) && is_full_size(&case.a) {
                     self.long += 1;
+                }
+            }
+            Call::FromDot => {
+                self.texts += 1;
+                if outcome.answer.counts[0] == LARGEST {
+                    self.largest_read += 1;
+                }
+            }
+            Call::ToDot if number == 0 => {
+                self.drawn += 1;
+                if case.a.len() as u64 == LARGEST {
+                    self.largest_drawn += 1;
                 }
             }
             _ => {}
@@ -70,14 +95,18 @@ fn answers_agree() {
         }
     }
     println!(
-        "{} cases, {} files, {} rides, {} reduced, {} of them long",
-        tally.cases, tally.files, tally.rides, tally.reduced, tally.long
+        "{} cases, {} files, {} rides, {} reduced, {} of them long, {} texts, {} drawn",
+        tally.cases, tally.files, tally.rides, tally.reduced, tally.long, tally.texts, tally.drawn
     );
     for (what, tried, least) in [
         ("files", tally.files, LEAST_FILES),
         ("rides", tally.rides, LEAST_RIDES),
         ("reductions", tally.reduced, LEAST_REDUCED),
         ("long reductions", tally.long, LEAST_LONG),
+        ("texts", tally.texts, LEAST_TEXTS),
+        ("drawings", tally.drawn, LEAST_DRAWN),
+        ("largest texts", tally.largest_read, LEAST_LARGEST),
+        ("largest drawings", tally.largest_drawn, LEAST_LARGEST),
     ] {
         assert!(tried >= least, "only {tried} {what} were tried");
     }

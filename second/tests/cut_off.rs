@@ -6,8 +6,9 @@ use common::{at_once, program, run, whole, Ran};
 use second::case::Case;
 use second::frame::{answer_batch, write_batch};
 use second::make::filters::largest;
+use second::make::texts::{drawable, text_of};
 use second::random::{seed_or, Random};
-use second::rides::{A, K, K_COLOURS, K_EDGES, K_OBSERVATIONS};
+use second::rides::{A, C, C_DRAWN, K, K_COLOURS, K_EDGES, K_OBSERVATIONS};
 use second::{file, stored};
 
 fn run_answers(batch: &[u8]) -> Ran {
@@ -33,6 +34,8 @@ fn a_few() -> Vec<Case> {
         Case::pack(K_COLOURS.to_vec(), K_EDGES.to_vec(), 2, 0, vec![0xee; 19]),
         Case::trace(K.to_vec(), K_OBSERVATIONS.to_vec(), vec![0xee; 4]),
         Case::reduce(K.to_vec(), vec![0xee; 19], vec![0xee; 9]),
+        Case::from_dot(C_DRAWN.into(), vec![0xee; 8]),
+        Case::to_dot(C.to_vec(), vec![0xee; 27]),
     ]
 }
 
@@ -74,6 +77,26 @@ fn cut_inside_long_strings() {
     cases.push(Case::unpack(file, vec![0xee; 256], vec![0xee; 49_152]));
     let batch = write_batch(&cases);
     for missing in [0, 1, 49_151, 49_152, 49_153, 49_500, 80_000, 94_600] {
+        agrees(&batch[..batch.len() - missing]);
+    }
+}
+
+#[test]
+fn cut_inside_a_long_text() {
+    let mut random = Random::new(seed_or(1));
+    let filter = drawable(largest(&mut random));
+    let text = text_of(&filter);
+    let length = text.len();
+    let mut cases = a_few();
+    cases.push(Case::from_dot(text, vec![0xee; 45_253]));
+    let batch = write_batch(&cases);
+    for missing in [0, 1, 45_252, 45_253, 45_254, 200_000, length + 45_253] {
+        agrees(&batch[..batch.len() - missing]);
+    }
+    cases.pop();
+    cases.push(Case::to_dot(file::write(&filter), vec![0xee; length]));
+    let batch = write_batch(&cases);
+    for missing in [0, 1, 200_000, length, length + 1, length + 45_253] {
         agrees(&batch[..batch.len() - missing]);
     }
 }

@@ -1,4 +1,4 @@
-//! The filters in examples/: made again by their script, reduced by both programs, and as their table says.
+//! The filters in examples/: made again by their script, reduced and drawn by both programs, and as their table says.
 
 mod common;
 // It also has what programs are fed with in other ways, which is of no use here.
@@ -8,7 +8,12 @@ mod outputs;
 
 use common::{at_once, program, run, whole};
 use outputs::{wrote, Folder};
+use second::call::from_dot;
+use second::case::{Case, Outcome};
+use second::compare::Batch;
+use second::dot::can_be_drawn;
 use second::file::{read, write, Filter};
+use second::make::Made;
 use second::program::shrink;
 use second::reduce::reduce;
 use second::rides::*;
@@ -21,13 +26,13 @@ fn examples() -> PathBuf {
     Path::new(env!("CARGO_MANIFEST_DIR")).join("../examples")
 }
 
-/// The bytes of every filter file of a folder by the file's name.
-fn filter_files(folder: &Path) -> BTreeMap<String, Vec<u8>> {
+/// The bytes of every file of a folder that has this ending, by the name before it.
+fn files(folder: &Path, ending: &str) -> BTreeMap<String, Vec<u8>> {
     let mut files = BTreeMap::new();
     for entry in fs::read_dir(folder).expect("the folder can be read") {
         let path = entry.expect("an entry").path();
-        if path.extension().is_some_and(|end| end == "filter") {
-            let name = path.file_name().expect("a name").to_string_lossy();
+        if path.extension().is_some_and(|end| end == ending) {
+            let name = path.file_stem().expect("a name").to_string_lossy();
             files.insert(name.into_owned(), fs::read(&path).expect("its bytes"));
         }
     }
@@ -56,11 +61,8 @@ impl Example {
 
     /// Of every filter file, a reduced one without its original included.
     fn all() -> Vec<Example> {
-        let files = filter_files(&examples());
-        let stem = |file: &String| {
-            let stem = file.strip_suffix(".filter").expect("a filter file");
-            stem.strip_suffix(".reduced").unwrap_or(stem).to_string()
-        };
+        let files = files(&examples(), "filter");
+        let stem = |name: &String| name.strip_suffix(".reduced").unwrap_or(name).to_string();
         let names: BTreeSet<String> = files.keys().map(stem).collect();
         assert!(!names.is_empty(), "no example at all");
         names.iter().map(|name| Example::named(name)).collect()
@@ -106,11 +108,146 @@ fn the_script_makes_the_same_files_again() {
         .status()
         .expect("python3 can be started");
     assert!(status.success(), "make.py: {status}");
-    let made = filter_files(&folder.path);
-    let here = filter_files(&examples());
-    assert!(made.keys().eq(here.keys()), "{:?}", made.keys());
-    for (name, bytes) in made {
-        assert!(bytes == here[&name], "{name} is made with other bytes");
+    for ending in ["filter", "dot"] {
+        let made = files(&folder.path, ending);
+        let here = files(&examples(), ending);
+        assert!(made.keys().eq(here.keys()), "{ending}: {:?}", made.keys());
+        for (name, bytes) in made {
+            let same = bytes == here[&name];
+            assert!(same, "{name}.{ending} is made with other bytes");
+        }
+    }
+}
+
+fn filter_of(name: &str, file: &[u8]) -> Filter {
+    read(file).unwrap_or_else(|refusal| panic!("{name}.filter: {refusal:?}"))
+}
+
+#[test]
+fn every_filter_that_can_be_drawn_is_drawn() {
+    let filters = files(&examples(), "filter");
+    let drawable = |(name, file): &(&String, &Vec<u8>)| can_be_drawn(&filter_of(name, file));
+    let drawable: Vec<&String> = filters
+        .iter()
+        .filter(drawable)
+        .map(|(name, _)| name)
+        .collect();
+    let drawings = files(&examples(), "dot");
+    assert_eq!(drawings.keys().collect::<Vec<_>>(), drawable);
+}
+
+/// Accepted, with these bytes at the front of the room and the rest as found.
+fn holds(outcome: &Outcome, written: &[u8]) -> bool {
+    let (front, behind) = outcome.c.split_at(written.len());
+    let counts = [written.len() as u64, 0, 0, 0];
+    (outcome.answer.number, outcome.answer.counts) == (0, counts)
+        && front == written
+        && behind.iter().all(|&byte| byte == FOUND)
+}
+
+const FOUND: u8 = 0xee;
+
+#[test]
+fn the_drawings_are_written_and_read_by_both_programs() {
+    let (filters, drawings) = (files(&examples(), "filter"), files(&examples(), "dot"));
+    let room = |written: &Vec<u8>| vec![FOUND; written.len() + 3];
+    let mut made = Vec::new();
+    for (name, text) in &drawings {
+        let file = &filters[name];
+        for case in [
+            Case::to_dot(file.clone(), room(text)),
+            Case::from_dot(text.clone(), room(file)),
+        ] {
+            let family = "drawings of the examples";
+            made.push(Made { family, case });
+        }
+    }
+    let batch = Batch::new("second-examples".to_string(), made);
+    let outcomes = batch
+        .compare()
+        .unwrap_or_else(|difference| panic!("{}", difference.report));
+    for ((name, text), of_both) in drawings.iter().zip(outcomes.chunks(2)) {
+        assert!(
+            holds(&of_both[0], text),
+            "{name}.dot is not what is written"
+        );
+        assert!(
+            holds(&of_both[1], &filters[name]),
+            "{name}.dot is not read as it is"
+        );
+    }
+}
+
+/// docs/DRAWING.md has K's drawing whole, and places that it works out by hand.
+#[test]
+fn the_document_on_drawings_says_what_comes() {
+    let document = fs::read_to_string(examples().join("../docs/DRAWING.md")).expect("the document");
+    let drawings = files(&examples(), "dot");
+    let k = String::from_utf8(drawings["k"].clone()).expect("text");
+    let block: String = k.lines().map(|line| format!("    {line}\n")).collect();
+    assert!(document.contains(&block));
+    for (text, number, place) in [
+        ("digraph {\n1 [label=0];\n}\n".to_string(), 15, 12),
+        (k.replace("0 -> 1 ", "0 -> 01 "), 15, 55),
+        ("digraph {\n0 [lab".to_string(), 15, 16),
+        (k[..k.len() - 1].to_string(), 15, 122),
+        (format!("{k}\n"), 15, 123),
+        (k.replace("0 -> 2 ", "0 -> 3 "), 7, 1),
+        (k.replace("0 -> 2 ", "0 -> 999 "), 7, 1),
+        (k.replace("2 [label=1];\n1", "2 [label=0];\n1"), 9, 1),
+        ("digraph {\n}\n".to_string(), 14, 0),
+    ] {
+        let answer = from_dot(text.as_bytes(), &mut [0; 18]);
+        assert_eq!((answer.number, answer.place), (number, place), "{text}");
+        let told = format!("{number} at {place}");
+        assert!(place == 0 || document.contains(&told), "{told} is not told");
+    }
+}
+
+/// A picture has a filter of so many states or fewer.
+const MOST_IN_A_PICTURE: u64 = 60;
+
+/// What stands between the tags of this name, tag by tag.
+fn inside<'a>(text: &'a str, tag: &str) -> Vec<&'a str> {
+    let (opens, closes) = (format!("<{tag}"), format!("</{tag}>"));
+    let behind = text.split(&opens).skip(1);
+    behind
+        .filter_map(|rest| rest.split_once('>')?.1.split(&closes).next())
+        .collect()
+}
+
+/// The lines of a drawing, sorted, as a picture of it shows them.
+fn shown(picture: &str) -> Vec<String> {
+    let mut lines = Vec::new();
+    for group in picture.split("<g id=").skip(2) {
+        let title = inside(group, "title").concat();
+        match (title.split_once("&#45;&gt;"), &inside(group, "text")[..]) {
+            (Some((source, target)), [label]) => {
+                lines.push(format!("{source} -> {target} [label={label}];"));
+            }
+            (None, [state, colour]) if *state == title => {
+                let colour = colour.trim_matches(['[', ']']);
+                lines.push(format!("{state} [label={colour}];"));
+            }
+            _ => panic!("{group}"),
+        }
+    }
+    lines.sort();
+    lines
+}
+
+#[test]
+fn the_pictures_show_the_drawings() {
+    let (filters, drawings) = (files(&examples(), "filter"), files(&examples(), "dot"));
+    let few = |name: &&String| filter_of(name, &filters[*name]).n() <= MOST_IN_A_PICTURE;
+    let pictures = files(&examples(), "svg");
+    assert!(pictures.keys().eq(drawings.keys().filter(few)));
+    for (name, picture) in &pictures {
+        let picture = String::from_utf8_lossy(picture);
+        let drawing = String::from_utf8_lossy(&drawings[name]);
+        let mut lines: Vec<&str> = drawing.lines().filter(|line| line.ends_with(';')).collect();
+        lines.sort();
+        assert_eq!(shown(&picture), lines, "{name}.svg");
     }
 }
 

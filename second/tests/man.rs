@@ -1,5 +1,5 @@
 //! The manual pages in man/ say what the programs do: each example prints what stands below it, and the refusals are those
-//! that can come.
+//! that can come. The examples of the command pierhollow are run where it is built, by tests/tool/run.
 
 use second::make::{files, traces};
 use second::program;
@@ -41,16 +41,21 @@ fn section<'a>(page: &'a str, title: &str) -> Vec<&'a str> {
         .collect()
 }
 
+fn titles(page: &str) -> Vec<&str> {
+    page.lines()
+        .filter_map(|line| line.strip_prefix(".SH "))
+        .collect()
+}
+
 #[test]
 fn the_sections_are_all_there() {
     for name in PAGES {
-        let page = page(name);
-        let titles: Vec<&str> = page
-            .lines()
-            .filter_map(|line| line.strip_prefix(".SH "))
-            .collect();
-        assert_eq!(titles, SECTIONS, "{name}");
+        assert_eq!(titles(&page(name)), SECTIONS, "{name}");
     }
+    // The command alone has options, behind its description.
+    let (before, behind) = SECTIONS.split_at(3);
+    let of_the_command = [before, &["OPTIONS"], behind].concat();
+    assert_eq!(titles(&page("pierhollow")), of_the_command);
 }
 
 /// A line as it is shown, of the escapes that the pages use.
@@ -166,4 +171,12 @@ fn the_refusals_of_a_trace_are_listed() {
         .iter()
         .filter_map(|case| refused(&program::trace(&case.a, &case.b)));
     assert_eq!(listed("trace"), numbers.collect());
+}
+
+/// A command gives what the program of its name gives; what a drawing adds comes from none of them.
+#[test]
+fn the_refusals_of_the_command_are_listed() {
+    let mut numbers: BTreeSet<u8> = PAGES.into_iter().flat_map(listed).collect();
+    numbers.extend([14, 15]);
+    assert_eq!(listed("pierhollow"), numbers);
 }

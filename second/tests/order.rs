@@ -1,4 +1,4 @@
-//! The generator makes what its families say, and the second program answers in document 01's order.
+//! The generator makes what its families say, and the second program answers in the documents' order.
 
 use second::bits::free_bits;
 use second::call::check;
@@ -10,7 +10,7 @@ use second::make::damage::{one_faulty_edge, two_faulty_edges, Damage};
 use second::make::draft::Draft;
 use second::make::filters::shapes;
 use second::make::rooms::Room;
-use second::make::{files, lists, reduces, traces};
+use second::make::{contents, drawings, files, lists, reduces, texts, traces};
 use second::random::{seed_or, Random};
 use second::reduce::reduce;
 use std::collections::BTreeSet;
@@ -379,6 +379,124 @@ fn filters_are_merged_and_parted_in_each_family() {
         assert!(merged > cases / 10, "{merged} of {cases} are merged");
         assert!(parted > cases / 10, "{parted} of {cases} are parted");
     }
+}
+
+#[test]
+fn accepted_texts_and_drawn_filters_are_accepted_where_the_room_is_enough() {
+    for_seeds(20, |random| {
+        let cases = [
+            texts::accepted(random),
+            drawings::drawn(random),
+            drawings::of_the_document(random),
+        ];
+        for (i, case) in cases.concat().iter().enumerate() {
+            assert_eq!(number(case), if enough(i) { 0 } else { 10 });
+        }
+    });
+}
+
+#[test]
+fn of_two_faults_of_a_text_the_first_of_the_pair_comes() {
+    for_each_seed(|random| {
+        for (&(first, second), case) in contents::PAIRS.iter().zip(contents::two_faults(random)) {
+            assert_eq!(number(&case), first, "{first} and {second}");
+        }
+    });
+}
+
+/// A refused text's place.
+fn place_outside(case: &Case) -> u64 {
+    let answer = case.outcome().answer;
+    assert_eq!(answer.number, 15, "{}", case.a.escape_ascii());
+    answer.place
+}
+
+#[test]
+fn a_beginning_is_outside_at_its_end_and_a_longer_text_where_the_profile_ends() {
+    for_seeds(20, |random| {
+        for case in texts::every_beginning(random) {
+            assert_eq!(place_outside(&case), case.a.len() as u64);
+        }
+        for case in texts::something_behind(random) {
+            let brace = case.a.windows(2).position(|two| two == b"}\n");
+            assert_eq!(place_outside(&case), brace.expect("a brace") as u64 + 2);
+        }
+    });
+}
+
+#[test]
+fn states_in_disorder_are_outside() {
+    for_each_seed(|random| {
+        for case in texts::states_in_disorder(random) {
+            let place = place_outside(&case);
+            assert!(0 < place && place < case.a.len() as u64);
+        }
+    });
+}
+
+#[test]
+fn numbers_of_states_decide_between_15_14_and_others() {
+    for_seeds(5, |random| {
+        let numbers: Vec<u8> = contents::numbers_of_states(random)
+            .iter()
+            .map(|case| match number(case) {
+                10 => 0,
+                number => number,
+            })
+            .collect();
+        let by_states: Vec<&[u8]> = numbers.chunks(3).collect();
+        assert_eq!(
+            by_states,
+            [[14; 3], [0; 3], [0; 3], [0; 3], [14; 3], [14; 3], [14; 3], [15; 3]]
+        );
+    });
+}
+
+#[test]
+fn texts_with_too_many_edges_are_3_and_faulty_edges_are_named() {
+    for_each_seed(|random| {
+        for case in contents::too_many_edges(random) {
+            assert_eq!(number(&case), 3);
+        }
+        let numbers = [7, 7, 8, 9, 9];
+        for (i, case) in contents::faulty_edge(random).iter().enumerate() {
+            let answer = case.outcome().answer;
+            let edges = case.a.windows(2).filter(|two| two == b"->").count() as u64;
+            assert_eq!(answer.number, numbers[i / 3]);
+            assert!(match i % 3 {
+                0 => answer.place == u64::from(answer.number > 7),
+                1 => answer.place == edges / 2,
+                _ => answer.place == edges - 1,
+            });
+        }
+        for (i, case) in contents::faulty_edges(random).iter().enumerate() {
+            let (earlier, later) = (i / 6, i % 6);
+            // The sixth has both in one edge.
+            let expected = if later == 5 { 7 } else { numbers[earlier] };
+            assert_eq!(number(case), expected);
+        }
+    });
+}
+
+#[test]
+fn what_cannot_be_drawn_is_15_whatever_the_room_and_a_faulty_file_decides_before() {
+    for_each_seed(|random| {
+        for case in drawings::not_drawn(random) {
+            assert_eq!(place_outside(&case), 0);
+        }
+        for (i, case) in drawings::of_faulty_files(random).iter().enumerate() {
+            assert_eq!(usize::from(number(case)), i / 4 + 1);
+        }
+    });
+}
+
+#[test]
+fn the_largest_texts_are_as_long_as_a_filter_can_make_them() {
+    for_seeds(2, |random| {
+        for case in &contents::largest_texts(random)[..4] {
+            assert!(case.a.len() > 360_000);
+        }
+    });
 }
 
 #[test]

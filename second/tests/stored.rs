@@ -39,6 +39,6 @@ fn the_stored_batch_has_every_number_and_stays_small() {
         }
     }
     let batch = write_batch(&cases);
-    assert!(batch.len() <= 80_000, "{} bytes", batch.len());
+    assert!(batch.len() <= 90_000, "{} bytes", batch.len());
     assert_eq!(read_batch(&batch), cases);
 }

@@ -1,6 +1,6 @@
 /*
  * Every call of the library from C: the values at their documented places, refusals with number and place, and rooms that a
- * refusal leaves as found. The cases are document 01's rides K, Q and R.
+ * refusal leaves as found. The cases are document 01's rides K, Q and R, and ride K drawn.
  */
 #include <stdio.h>
 #include <string.h>
@@ -13,6 +13,9 @@ static const uint8_t k_reduced[18] = {0x01, 0x04, 0x00, 0x00, 0x20, 0x00, 0x80, 
                                       0x00, 0x08, 0x08, 0x08, 0x00, 0x00, 0x20, 0x80, 0x00};
 static const uint8_t k_colours[3] = {0, 1, 1};
 static const uint8_t k_edges[12] = {0, 0, 1, 0, 1, 2, 1, 0, 0, 2, 1, 0};
+#define THREE_STATES "digraph {\n0 [label=0];\n1 [label=1];\n2 [label=1];\n"
+static const char k_drawing[] =
+    THREE_STATES "0 -> 1 [label=0];\n0 -> 2 [label=1];\n1 -> 0 [label=0];\n2 -> 0 [label=1];\n}\n";
 
 static int checks;
 static int failures;
@@ -124,6 +127,93 @@ static void reduce(void)
     expect(classes[0] == 0 && classes[1] == 1 && classes[2] == 1 && classes[3] == 7, "reduce: the class list");
 }
 
+static void from_dot_refuses(const char *text, unsigned number, uint64_t place, const char *what)
+{
+    uint64_t values[1] = {9};
+    uint8_t room[20];
+    memset(room, 0xAA, sizeof room);
+    expect_refusal(pierhollow_from_dot((const uint8_t *)text, strlen(text), room, 20, values), number, place, what);
+    expect(all(room, 20, 0xAA) && values[0] == 9, what);
+}
+
+static void from_dot(void)
+{
+    const uint8_t *text = (const uint8_t *)k_drawing;
+    size_t length = sizeof k_drawing - 1;
+    uint64_t values[1] = {9};
+    uint8_t room[20];
+    from_dot_refuses("", PIERHOLLOW_DRAWING, 0, "from_dot: no text");
+    from_dot_refuses("digraph {\n1 [", PIERHOLLOW_DRAWING, 12, "from_dot: state 1 first");
+    from_dot_refuses(THREE_STATES, PIERHOLLOW_DRAWING, 49, "from_dot: cut off");
+    from_dot_refuses(THREE_STATES "}\n}", PIERHOLLOW_DRAWING, 51, "from_dot: a brace too many");
+    from_dot_refuses("digraph {\n}\n", PIERHOLLOW_LISTS, 0, "from_dot: no states");
+    from_dot_refuses("digraph {\n0 [label=64];\n}\n", PIERHOLLOW_LISTS, 0, "from_dot: a colour of 64");
+    from_dot_refuses(THREE_STATES "0 -> 1 [label=64];\n}\n", PIERHOLLOW_LISTS, 0, "from_dot: a label of 64");
+    from_dot_refuses("digraph {\n0 [label=0];\n0 -> 0 [label=0];\n0 -> 0 [label=0];\n}\n",
+                     PIERHOLLOW_EDGE_COUNT, 0, "from_dot: two edges where one can be");
+    from_dot_refuses(THREE_STATES "0 -> 3 [label=0];\n}\n", PIERHOLLOW_OUTSIDE, 0, "from_dot: 7 at 0");
+    from_dot_refuses(THREE_STATES "0 -> 1 [label=0];\n256 -> 0 [label=0];\n}\n", PIERHOLLOW_OUTSIDE, 1, "from_dot: 7 at 1");
+    from_dot_refuses(THREE_STATES "0 -> 2 [label=1];\n0 -> 1 [label=0];\n}\n", PIERHOLLOW_ORDER, 1, "from_dot: 8 at 1");
+    from_dot_refuses(THREE_STATES "0 -> 1 [label=0];\n0 -> 2 [label=0];\n}\n", PIERHOLLOW_REPEATED, 1, "from_dot: 9 at 1");
+    memset(room, 0xAA, sizeof room);
+    expect_refusal(pierhollow_from_dot(NULL, 0, NULL, 0, values), PIERHOLLOW_DRAWING, 0, "from_dot: nothing lent");
+    expect_refusal(pierhollow_from_dot(text, length, room, 17, values), PIERHOLLOW_ANSWER_ROOM, 0, "from_dot: 17 bytes");
+    expect(all(room, 20, 0xAA) && values[0] == 9, "from_dot: a refusal leaves room and values");
+    expect(pierhollow_from_dot(text, length, room, 18, values) == 0, "from_dot of K, a room of 18 bytes");
+    expect(pierhollow_from_dot(text, length, room, 20, values) == 0 && values[0] == 18, "from_dot of K, and the length");
+    expect(memcmp(room, k_file, 18) == 0 && all(room + 18, 2, 0xAA), "from_dot: the file, and the room behind it");
+}
+
+static void to_dot(void)
+{
+    size_t length = sizeof k_drawing - 1;
+    uint64_t values[1] = {9};
+    uint8_t room[sizeof k_drawing + 1];
+    uint8_t other[18];
+    memset(room, 0xAA, sizeof room);
+    expect_refusal(pierhollow_to_dot(NULL, 0, room, sizeof room, values), PIERHOLLOW_TOO_SHORT, 0, "to_dot of no bytes");
+    expect_refusal(pierhollow_to_dot(k_file, 17, room, sizeof room, values), PIERHOLLOW_MISSING, 0, "to_dot of 17 bytes");
+    memcpy(other, k_file, 18);
+    other[17] = 1;
+    expect_refusal(pierhollow_to_dot(other, 18, NULL, 0, values), PIERHOLLOW_FILLING, 0, "to_dot: 6 before 10");
+    memcpy(other, k_file, 18);
+    other[2] = 0x04;
+    expect_refusal(pierhollow_to_dot(other, 18, NULL, 0, values), PIERHOLLOW_DRAWING, 0, "to_dot: start 1, and 15 before 10");
+    memcpy(other, k_file, 18);
+    other[1] = 0x08;
+    expect_refusal(pierhollow_to_dot(other, 18, room, sizeof room, values), PIERHOLLOW_DRAWING, 0, "to_dot: a third label");
+    expect_refusal(pierhollow_to_dot(k_file, 18, room, length - 1, values), PIERHOLLOW_ANSWER_ROOM, 0, "to_dot: a byte too few");
+    expect(all(room, sizeof room, 0xAA) && values[0] == 9, "to_dot: a refusal leaves room and values");
+    expect(pierhollow_to_dot(k_file, 18, room, length, values) == 0, "to_dot of K, a room just long enough");
+    expect(pierhollow_to_dot(k_file, 18, room, sizeof room, values) == 0 && values[0] == length, "to_dot of K, and the length");
+    expect(memcmp(room, k_drawing, length) == 0 && all(room + length, 2, 0xAA), "to_dot: the drawing, and the room behind it");
+}
+
+/* A filter with as many edges as there can be; its colours and targets have as many digits as they can. */
+static void longest(void)
+{
+    static uint8_t edges[3 * 256 * 64];
+    static uint8_t file[PIERHOLLOW_LONGEST_FILE];
+    static uint8_t again[PIERHOLLOW_LONGEST_FILE];
+    static uint8_t drawing[PIERHOLLOW_LONGEST_DRAWING];
+    uint8_t colours[256];
+    uint64_t values[1];
+    memset(colours, 63, sizeof colours);
+    for (size_t i = 0; i < 256 * 64; i++) {
+        edges[3 * i] = (uint8_t)(i / 64);
+        edges[3 * i + 1] = (uint8_t)(i % 64);
+        edges[3 * i + 2] = (uint8_t)(100 + i % 156);
+    }
+    expect(pierhollow_pack(colours, 256, edges, sizeof edges, 64, 0, file, sizeof file, values) == 0, "pack of the largest");
+    expect(values[0] == PIERHOLLOW_LONGEST_FILE, "pack: the longest file");
+    expect_refusal(pierhollow_to_dot(file, sizeof file, drawing, sizeof drawing - 1, values), PIERHOLLOW_ANSWER_ROOM, 0,
+                   "to_dot of the largest: a byte too few");
+    expect(pierhollow_to_dot(file, sizeof file, drawing, sizeof drawing, values) == 0, "to_dot of the largest");
+    expect(values[0] == PIERHOLLOW_LONGEST_DRAWING, "to_dot: the longest drawing");
+    expect(pierhollow_from_dot(drawing, sizeof drawing, again, sizeof again, values) == 0, "from_dot of the longest drawing");
+    expect(values[0] == sizeof again && memcmp(again, file, sizeof file) == 0, "from_dot: the largest file");
+}
+
 int main(void)
 {
     check();
@@ -131,6 +221,9 @@ int main(void)
     pack();
     trace();
     reduce();
+    from_dot();
+    to_dot();
+    longest();
     printf("%d checks, %d failed\n", checks, failures);
     return failures != 0;
 }

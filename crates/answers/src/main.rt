@@ -1,5 +1,5 @@
 // Answers a batch of cases, for comparison with the second program. `cases` says how a case is framed, `calls` which calls
-// there are. A string has at most 131,072 bytes. A case that is cut off, or of another call, ends the batch.
+// there are. A string has at most 400,000 bytes. A case that is cut off, or of another call, ends the batch.
 use cases::Head;
 use cases::Next;
 ghost use mathlib.Core.Path.{_≡_};
@@ -7,7 +7,7 @@ ghost use lib.ListN.{length};
 
 // Makes the call and writes its answer and the strings behind it; whether there is such a call.
 fn make_call(head: Head, a: &[u8], b: &mut [u8], c: &mut [u8]) -> bool {
-    if head.call < 1 || 5 < head.call {
+    if head.call < 1 || 7 < head.call {
         return false;
     }
     cases::write_answer(calls::answer(head, a, b, c));
@@ -68,10 +68,10 @@ fn batch(cases: u64, a: &mut [u8], b: &mut [u8], c: &mut [u8]) {
     }
 }
 
-fn string() -> [u8; 131072]
-    ensures { λ r. ⌜ 131072 ≡ length r ⌝ }
+fn string() -> [u8; 400000]
+    ensures { λ r. ⌜ 400000 ≡ length r ⌝ }
 {
-    [0; 131072]
+    [0; 400000]
 }
 
 fn main() {

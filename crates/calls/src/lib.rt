@@ -4,10 +4,12 @@
 // 1, check: a is the file. 2, unpack: a is the file, b and c are the rooms for colours and edges. 3, pack: a and b are the
 // colours and the edges, c is the room, the two numbers are m and the start. 4, trace: a is the file, b the observations, c
 // the room for colours; its counts are 0 and 0 where all is traced, 1 and i where it stops at i. 5, reduce: a is the file, b
-// the answer room, c the class list, two bytes an entry; an odd last byte is no entry.
+// the answer room, c the class list, two bytes an entry; an odd last byte is no entry. 6, from_dot: a is the text, c the room.
+// 7, to_dot: a is the file, c the room.
 use cases::Answer;
 use cases::Head;
 use checking::Checked;
+use dot::Made;
 use layout::Reading;
 use packing::Packed;
 use reduction::Reduced;
@@ -23,6 +25,7 @@ ghost use Rattle.files.specs.Files.{readingOutcome};
 ghost use Rattle.checking.specs.Promise.{checkedOutcome};
 ghost use Rattle.unpacking.specs.Promise.{unpackedOutcome};
 ghost use Rattle.packing.specs.Promise.{packedOutcome};
+ghost use Rattle.dot.specs.Promise.{madeOutcome};
 ghost use Rattle.tracing.specs.Answers.{tracedOutcome};
 ghost use Rattle.reduction.specs.Answers.{reducedOutcome};
 ghost use Rattle.calls.specs.Written.{Written};
@@ -84,6 +87,19 @@ fn packed(answer: Packed) -> Answer
     }
 }
 
+fn made(answer: Made) -> Answer
+    ensures { λ r. ⌜ Written 1 (madeOutcome answer) (r .number) (r .place) (r .counts) ⌝ }
+{
+    match answer {
+        Made::Accepted(n) => Answer {
+            number: 0,
+            place: 0,
+            counts: [n as u64, 0, 0, 0],
+        },
+        Made::Refused(why) => of_refusal(why),
+    }
+}
+
 fn traced(answer: Traced) -> Answer
     ensures { λ r. ⌜ Written 2 (tracedOutcome answer) (r .number) (r .place) (r .counts) ⌝ }
 {
@@ -136,6 +152,14 @@ fn trace(file: &[u8], observations: &[u8], colours: &mut [u8]) -> Answer {
     traced(tracing::trace(file, observations, colours))
 }
 
+fn from_dot(text: &[u8], room: &mut [u8]) -> Answer {
+    made(dot::from_dot(text, room))
+}
+
+fn to_dot(file: &[u8], room: &mut [u8]) -> Answer {
+    made(dot::to_dot(file, room))
+}
+
 fn reduce_into(file: &[u8], answer: &mut [u8], classes: &mut [u16]) -> Answer {
     reduced(reduction::reduce(file, answer, classes))
 }
@@ -155,7 +179,7 @@ fn reduce(file: &[u8], answer: &mut [u8], bytes: &mut [u8]) -> Answer {
     reduce_with(file, answer, bytes, &mut entries[0..n])
 }
 
-// Makes one of the five calls; what is not one of the first four is the fifth.
+// Makes one of the seven calls; what is none of the others is the fifth.
 pub fn answer(head: Head, a: &[u8], b: &mut [u8], c: &mut [u8]) -> Answer {
     if head.call == 1 {
         return check(a);
@@ -168,6 +192,12 @@ pub fn answer(head: Head, a: &[u8], b: &mut [u8], c: &mut [u8]) -> Answer {
     }
     if head.call == 4 {
         return trace(a, b, c);
+    }
+    if head.call == 6 {
+        return from_dot(a, c);
+    }
+    if head.call == 7 {
+        return to_dot(a, c);
     }
     reduce(a, b, c)
 }

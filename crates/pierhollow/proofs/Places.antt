@@ -1,18 +1,18 @@
--- The refusals of the other calls: a number of at most two digits, and a place below 65,536. So place times 256 plus the number fits 64
--- bits.
+-- The refusals of unpack, pack and reduce: a number of at most two digits, and a place below 65,536. So what a C caller gets is the
+-- place itself times 256 plus the number, as of check and trace. Only a drawing's place can be larger.
 -- Assumes nothing.
-use Prim.Native.Nat.{ℕ, _*_, _≤_}
+use Prim.Native.Nat.{ℕ, _+_, _*_, _^_, _≤_}
 use mathlib.Core.Path.{_≡_, refl}
 use mathlib.Core.List.{List}
 use mathlib.Core.Option.{none}
 use native.Mathlib.Nat.{mul-le-mul}
 use native.Mathlib.Omega.{arith}
 use lib.ListN.{length}
-use borrow.Author.Tests.{ltb-false, not-false}
+use borrow.Author.Tests.{lt-ltb, ltb-false, not-false}
 use Rattle.meaning.specs.Cases.{and-left}
 use Rattle.meaning.specs.Filter.{states}
 use Rattle.layout.specs.Layout.{large, fromLists}
-use Rattle.refusals.specs.Refusals.{roomTest}
+use Rattle.refusals.specs.Refusals.{Outcome, refused, roomTest}
 use Rattle.edges.specs.Faults.{firstFault}
 use Rattle.files.specs.Files.{checkOf, holdable, writeTests, writeOf}
 use Rattle.files.specs.Tests.{held}
@@ -22,6 +22,7 @@ use Rattle.unpacking.specs.Promise as unpacking
 use Rattle.packing.specs.Promise.{packOf}
 use Rattle.reduction.specs.Reducing.{reduceTests, reduceOf}
 use Rattle.folding.specs.Folding as folding
+use Rattle.pierhollow.specs.Codes.{codeOf}
 
 pub unpack-small : (s : List ℕ) (room : unpacking.Rooms) → Small (unpackOf large s room)
 unfolding unpackOf
@@ -42,3 +43,7 @@ pack-small cs es m st room =
 pub reduce-small : (s : List ℕ) (room : folding.Rooms) → Small (reduceOf large s room)
 unfolding reduceOf
 reduce-small s room = small-onward (checkOf large s) _ (check-small s) (small-first (reduceTests large s room) _ refl (λ _. small-accepted _))
+
+-- a place that is small is told whole
+pub told-whole : (o : Outcome) → Small o → (k p : ℕ) → o ≡ refused k p → codeOf o ≡ p * 256 + k
+told-whole o small k p e = rw (e, lt-ltb p (2 ^ 56) (omega (arith, small k p e .1)))

@@ -3,7 +3,7 @@ use Prim.Native.Nat.{ℕ, _+_, _*_}
 use mathlib.Core.Path.{_≡_, sym, ap, _∙_}
 use mathlib.Core.List.{List}
 use Rattle.refusals.specs.Refusals.{Outcome, accepted, refused, Lent, Promise}
-use Rattle.pierhollow.specs.Codes.{codeOf, stored, valuesAfter, Told}
+use Rattle.pierhollow.specs.Codes.{toldPlace, codeOf, stored, valuesAfter, Told}
 
 module _ {a due : Outcome} {rooms : List Lent} {left : List (List ℕ)} (kept : Promise a due rooms left) where
   pub told-accepted : (vs values : List ℕ) (r : ℕ) (values′ : List ℕ) → a ≡ accepted vs → r ≡ 0 → values′ ≡ stored 0 vs values → Told due rooms values r left values′
@@ -11,7 +11,7 @@ module _ {a due : Outcome} {rooms : List Lent} {left : List (List ℕ)} (kept : 
       let o : accepted vs ≡ due = sym e ∙ kept .answer in
       record { number = h ∙ ap codeOf o; rooms-after = kept .rooms-after; values-after = v ∙ ap (λ (o : Outcome). valuesAfter o values) o }
 
-  pub told-refused : (k p : ℕ) (values : List ℕ) (r : ℕ) → a ≡ refused k p → r ≡ p * 256 + k → Told due rooms values r left values
+  pub told-refused : (k p : ℕ) (values : List ℕ) (r : ℕ) → a ≡ refused k p → r ≡ toldPlace p * 256 + k → Told due rooms values r left values
   told-refused k p values r e h =
       let o : refused k p ≡ due = sym e ∙ kept .answer in
       record { number = h ∙ ap codeOf o; rooms-after = kept .rooms-after; values-after = ap (λ (o : Outcome). valuesAfter o values) o }

@@ -23,6 +23,12 @@ use Rattle.pierhollow.proofs.pierhollow_trace.Reads as trace-reads
 use Rattle.pierhollow.proofs.pierhollow_reduce as reduce
 use Rattle.pierhollow.proofs.pierhollow_reduce.Kinds as reduce-kinds
 use Rattle.pierhollow.proofs.pierhollow_reduce.Reads as reduce-reads
+use Rattle.pierhollow.proofs.pierhollow_from_dot as from-dot
+use Rattle.pierhollow.proofs.pierhollow_from_dot.Kinds as from-dot-kinds
+use Rattle.pierhollow.proofs.pierhollow_from_dot.Reads as from-dot-reads
+use Rattle.pierhollow.proofs.pierhollow_to_dot as to-dot
+use Rattle.pierhollow.proofs.pierhollow_to_dot.Kinds as to-dot-kinds
+use Rattle.pierhollow.proofs.pierhollow_to_dot.Reads as to-dot-reads
 
 pub check-to-c-one : (κs : Lfts 2) (a : ArgsD check.signature κs) (r₁ r₂ : ResD check.signature κs)
     (s₁ s₂ : AtExit (endedOf 2 check-kinds.ps check-kinds.r) κs) →
@@ -48,3 +54,13 @@ pub reduce-to-c-one : (κs : Lfts 4) (a : ArgsD reduce.signature κs) (r₁ r₂
     (s₁ s₂ : AtExit (endedOf 4 reduce-kinds.ps reduce-kinds.r) κs) →
     reduce-reads.Post κs a r₁ s₁ → reduce-reads.Post κs a r₂ s₂ → (r₁ ≡ r₂) × (now (s₁ .1 .0) ≡ now (s₂ .1 .0)) × (now (s₁ .1 .1 .0) ≡ now (s₂ .1 .1 .0)) × (now (s₁ .1 .1 .1 .0) ≡ now (s₂ .1 .1 .1 .0))
 reduce-to-c-one κs a r₁ r₂ s₁ s₂ p₁ p₂ = let one = told-one p₁ p₂ in (one .0, cc (one .1), cc (one .1), one .2)
+
+pub from-dot-to-c-one : (κs : Lfts 3) (a : ArgsD from-dot.signature κs) (r₁ r₂ : ResD from-dot.signature κs)
+    (s₁ s₂ : AtExit (endedOf 3 from-dot-kinds.ps from-dot-kinds.r) κs) →
+    from-dot-reads.Post κs a r₁ s₁ → from-dot-reads.Post κs a r₂ s₂ → (r₁ ≡ r₂) × (now (s₁ .1 .0) ≡ now (s₂ .1 .0)) × (now (s₁ .1 .1 .0) ≡ now (s₂ .1 .1 .0))
+from-dot-to-c-one κs a r₁ r₂ s₁ s₂ p₁ p₂ = let one = told-one p₁ p₂ in (one .0, cc (one .1), one .2)
+
+pub to-dot-to-c-one : (κs : Lfts 3) (a : ArgsD to-dot.signature κs) (r₁ r₂ : ResD to-dot.signature κs)
+    (s₁ s₂ : AtExit (endedOf 3 to-dot-kinds.ps to-dot-kinds.r) κs) →
+    to-dot-reads.Post κs a r₁ s₁ → to-dot-reads.Post κs a r₂ s₂ → (r₁ ≡ r₂) × (now (s₁ .1 .0) ≡ now (s₂ .1 .0)) × (now (s₁ .1 .1 .0) ≡ now (s₂ .1 .1 .0))
+to-dot-to-c-one κs a r₁ r₂ s₁ s₂ p₁ p₂ = let one = told-one p₁ p₂ in (one .0, cc (one .1), one .2)

@@ -8,6 +8,7 @@ use Rattle.files.specs.Files.{checkOf}
 use Rattle.unpacking.specs.Promise.{unpackOf, unpackLent}
 use Rattle.unpacking.specs.Promise as unpacking
 use Rattle.packing.specs.Promise.{packOf, packLent}
+use Rattle.dot.specs.Promise.{fromDotOf, fromDotLent, toDotOf, toDotLent}
 use Rattle.tracing.specs.Tracing.{traceOf}
 use Rattle.tracing.specs.Promise.{traceLent}
 use Rattle.reduction.specs.Reducing.{reduceOf}
@@ -39,3 +40,13 @@ TraceToC file observations colours values r colours′ values′ =
 abbrev pub ReduceToC : List ℕ → folding.Rooms → List ℕ → ℕ → folding.Rooms → List ℕ → Type 0
 ReduceToC file found values r left values′ =
     Told (reduceOf large file found) (reduceLent large file found) values r (folding.both left) values′
+
+-- Value: the file's length.
+abbrev pub FromDotToC : List ℕ → List ℕ → List ℕ → ℕ → List ℕ → List ℕ → Type 0
+FromDotToC text room values r room′ values′ =
+    Told (fromDotOf large text (length room)) (fromDotLent large text room) values r (room′ ∷ []) values′
+
+-- Value: the text's length.
+abbrev pub ToDotToC : List ℕ → List ℕ → List ℕ → ℕ → List ℕ → List ℕ → Type 0
+ToDotToC file room values r room′ values′ =
+    Told (toDotOf large file (length room)) (toDotLent large file room) values r (room′ ∷ []) values′

@@ -1,6 +1,7 @@
-// The calls for C. Each returns 0 for accepted, else the refusal's place times 256 plus its number; include/pierhollow.h says
-// which value stands where in the lent array.
+// The calls for C. Each returns 0 for accepted, else the refusal's place times 256 plus its number, and a place of 2^56 or more as
+// 2^56 - 1; include/pierhollow.h says which value stands where in the lent array.
 use checking::Checked;
+use dot::Made;
 use folding::Counts;
 use layout::Reading;
 use packing::Packed;
@@ -10,12 +11,13 @@ use tracing::Traced;
 use unpacking::Unpacked;
 ghost use mathlib.Core.Path.{_≡_};
 ghost use mathlib.Core.List.{_∷_, []};
-ghost use Prim.Native.Nat.{_+_, _*_, _<_};
+ghost use Prim.Native.Nat.{_+_, _*_, _^_, _<_};
 ghost use Rattle.refusals.specs.Refusals.{numberOf};
 ghost use Rattle.unpacking.specs.Promise as unpacking;
 ghost use Rattle.folding.specs.Folding as folding;
-ghost use Rattle.pierhollow.specs.Codes.{stored};
+ghost use Rattle.pierhollow.specs.Codes.{toldPlace, stored};
 ghost use Rattle.pierhollow.specs.Promise.{CheckToC, UnpackToC, PackToC, TraceToC, ReduceToC};
+ghost use Rattle.pierhollow.specs.Promise.{FromDotToC, ToDotToC};
 
 #[no_mangle]
 pub extern "C" fn pierhollow_check(file: &[u8], values: &mut [u64; 4]) -> u64
@@ -94,12 +96,43 @@ pub extern "C" fn pierhollow_reduce(
     }
 }
 
+#[no_mangle]
+pub extern "C" fn pierhollow_from_dot(text: &[u8], room: &mut [u8], values: &mut [u64; 1]) -> u64
+    ensures { λ r. ⌜ FromDotToC (now (text .entry)) (now (room .entry)) (now (values .entry)) r (now (room .exit))
+        (now (values .exit)) ⌝ }
+{
+    match dot::from_dot(text, room) {
+        Made::Accepted(length) => tell_length(length, values),
+        Made::Refused(why) => code(why),
+    }
+}
+
+#[no_mangle]
+pub extern "C" fn pierhollow_to_dot(file: &[u8], room: &mut [u8], values: &mut [u64; 1]) -> u64
+    ensures { λ r. ⌜ ToDotToC (now (file .entry)) (now (room .entry)) (now (values .entry)) r (now (room .exit))
+        (now (values .exit)) ⌝ }
+{
+    match dot::to_dot(file, room) {
+        Made::Accepted(length) => tell_length(length, values),
+        Made::Refused(why) => code(why),
+    }
+}
+
 fn code(why: Refusal) -> u64
-    requires { ⌜ why .place < 65536 ⌝ }
-    ensures { λ r. ⌜ r ≡ why .place * 256 + numberOf (why .kind) ⌝ }
+    ensures { λ r. ⌜ r ≡ toldPlace (why .place) * 256 + numberOf (why .kind) ⌝ }
 {
     let kind = why.kind;
-    why.place as u64 * 256 + arrays::wide_byte(refusals::number(kind)) as u64
+    told_place(why.place as u64) * 256 + arrays::wide_byte(refusals::number(kind)) as u64
+}
+
+// A place that leaves room for the number.
+fn told_place(place: u64) -> u64
+    ensures { λ r. ⌜ (r ≡ toldPlace place) × (r < 2 ^ 56) ⌝ }
+{
+    if place < 72057594037927936 {
+        return place;
+    }
+    72057594037927935
 }
 
 fn tell_reading(reading: Reading, values: &mut [u64; 4]) -> u64

@@ -17,6 +17,7 @@ pub enum Kind {
     Room,
     Observation,
     Lists,
+    Drawing,
 }
 
 pub struct Refusal {
@@ -50,5 +51,6 @@ pub fn number(kind: Kind) -> u8
         Kind::Room => 12,
         Kind::Observation => 13,
         Kind::Lists => 14,
+        Kind::Drawing => 15,
     }
 }

@@ -2,6 +2,7 @@
 
 use crate::case::Case;
 use crate::file::{length, Filter};
+use crate::frame::LONGEST;
 use crate::make::damage::{
     damage_one, doubly_faulty_edge, one_faulty_edge, two_faulty_edges, Damage,
 };
@@ -326,8 +327,8 @@ pub fn large_lists(random: &mut Random) -> Vec<Case> {
     }
     let any = Lists::of(&large(random));
     cases.push(any.with_any_room(random));
-    // 16,384 is the most that fits, 32,767 the most that the header can say, 43,690 the most that a case can hold.
-    for e in [16_385, 32_767, 32_768, 32_769, 43_690] {
+    // 16,384 is the most that fits, 32,767 the most that the header can say, 133,333 the most that a case can hold.
+    for e in [16_385, 32_767, 32_768, 32_769, 133_333] {
         let mut lists = Lists::of(&largest(random));
         lists.fill_up(e, random);
         cases.push(lists.with_any_room(random));
@@ -336,7 +337,7 @@ pub fn large_lists(random: &mut Random) -> Vec<Case> {
     lists.fill_up(32_768, random);
     cases.push(lists.with_any_room(random));
     let mut lists = Lists::of(&small(random));
-    lists.colours = vec![0; random.pick(&[65_536, 65_537, 131_072])];
+    lists.colours = vec![0; random.pick(&[65_536, 65_537, 131_072, LONGEST])];
     cases.push(lists.with_room(Room::Empty, random));
     let mut lists = Lists::of(&largest(random));
     let damaged = random.between(1, 16_383) as usize;

@@ -41,6 +41,15 @@ pub fn any(random: &mut Random) -> Room {
     ])
 }
 
+/// Now and then with a string B, which a call that has no use for it gives back.
+pub fn unused_string(mut case: Case, random: &mut Random) -> Case {
+    if random.once_in(10) {
+        let length = random.between(1, 30) as usize;
+        case.b = random.bytes(length);
+    }
+    case
+}
+
 /// The file checked, unpacked into rooms of some kind, traced with some observations, and reduced.
 pub fn cases_of_file(random: &mut Random, file: Vec<u8>) -> Vec<Case> {
     let (colours, edges) = wanted_by(&file);

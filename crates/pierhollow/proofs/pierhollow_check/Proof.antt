@@ -7,13 +7,9 @@ use Rattle.layout.specs.Layout.{large}
 use Rattle.refusals.specs.Refusals.{Promise}
 use Rattle.checking.specs.Promise.{checkedOutcome}
 use Rattle.files.specs.Files.{checkOf}
-use Rattle.files.specs.Places.{check-small}
 use Rattle.pierhollow.proofs.Telling.{told-accepted, told-refused}
 use Rattle.pierhollow.proofs.pierhollow_check.Statement.{statement}
 use Rattle.pierhollow.proofs.pierhollow_check.Tie as tie
-
-code-requires : tie.Need-code-requires
-code-requires c κs = let start = c .before .before .before .before .before in check-small (now (start .args .file)) _ _ (sym (c .before .before .before .check .ensures) ∙ ap checkedOutcome (c .before .why .given .1)) .1
 
 -- check is lent no room
 kept : (c : tie.After-check) → Promise (checkedOutcome (c .check .result)) (checkOf large (now (c .before .before .args .file))) [] []
@@ -33,6 +29,6 @@ pierhollow-check-spec =
     (λ c. search needs)
     (λ c κs. search needs)
     (λ c. search needs)
-    code-requires
+    (λ c κs. search needs)
     returns
     returns-2)

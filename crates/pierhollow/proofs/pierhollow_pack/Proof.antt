@@ -7,13 +7,9 @@ use denote.Ref.{now}
 use lib.ListN.{length}
 use Rattle.layout.specs.Layout.{large}
 use Rattle.packing.specs.Promise.{packedOutcome, packOf}
-use Rattle.pierhollow.proofs.Places.{pack-small}
 use Rattle.pierhollow.proofs.Telling.{told-accepted, told-refused}
 use Rattle.pierhollow.proofs.pierhollow_pack.Statement.{statement}
 use Rattle.pierhollow.proofs.pierhollow_pack.Tie as tie
-
-code-requires : tie.Need-code-requires
-code-requires c κs = let a = c .before .before .before .before .before .before .before .before .before .before .args in pack-small (now (a .colours)) (now (a .edges)) (a .m) (a .start) (length (now (a .room))) _ _ (sym (c .before .before .before .before .before .pack .ensures .answer) ∙ ap packedOutcome (c .before .why .given .1)) .1
 
 returns : tie.Need-returns
 returns c = told-accepted (c .before .before .before .before .before .before .before .pack .ensures) _ _ (c .tell-length .result) _ (ap packedOutcome (c .before .before .before .length .given .1)) (c .tell-length .ensures .0) (c .tell-length .ensures .1)
@@ -29,7 +25,7 @@ pierhollow-pack-spec =
     (λ c. search needs)
     (λ c κs. search needs)
     (λ c. search needs)
-    code-requires
+    (λ c κs. search needs)
     (λ c. search needs)
     returns
     (λ c. search needs)

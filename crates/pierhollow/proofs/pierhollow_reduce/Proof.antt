@@ -8,13 +8,9 @@ use Rattle.folding.specs.Folding.{rooms}
 use Rattle.reduction.specs.Reducing.{reduceOf}
 use Rattle.layout.specs.Layout.{large}
 use Rattle.reduction.specs.Answers.{reducedOutcome}
-use Rattle.pierhollow.proofs.Places.{reduce-small}
 use Rattle.pierhollow.proofs.Telling.{told-accepted, told-refused}
 use Rattle.pierhollow.proofs.pierhollow_reduce.Statement.{statement}
 use Rattle.pierhollow.proofs.pierhollow_reduce.Tie as tie
-
-code-requires : tie.Need-code-requires
-code-requires c κs = let a = c .before .before .before .before .before .before .before .before .before .before .before .before .before .args in reduce-small (now (a .file)) (rooms (now (a .answer)) (now (a .classes))) _ _ (sym (c .before .before .before .before .before .before .before .reduce .ensures .answer) ∙ ap reducedOutcome (c .before .why .given .1)) .1
 
 returns : tie.Need-returns
 returns c = told-accepted (c .before .before .before .before .before .before .before .before .before .reduce .ensures) _ _ (c .tell-counts .result) _ (ap reducedOutcome (c .before .before .before .counts .given .1)) (c .tell-counts .ensures .0) (c .tell-counts .ensures .1)
@@ -30,7 +26,7 @@ pierhollow-reduce-spec =
     (λ c. search needs)
     (λ c κs. search needs)
     (λ c. search needs)
-    code-requires
+    (λ c κs. search needs)
     (λ c. search needs)
     (λ c. search needs)
     returns

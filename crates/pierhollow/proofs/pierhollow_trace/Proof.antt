@@ -8,16 +8,12 @@ use lib.ListN.{length}
 use Rattle.layout.specs.Layout.{large}
 use Rattle.tracing.specs.Answers.{tracedOutcome}
 use Rattle.tracing.specs.Tracing.{traceOf}
-use Rattle.tracing.proofs.Places.{trace-small}
 use Rattle.pierhollow.proofs.Telling.{told-accepted, told-refused}
 use Rattle.pierhollow.proofs.pierhollow_trace.Statement.{statement}
 use Rattle.pierhollow.proofs.pierhollow_trace.Tie as tie
 
 enum-told : tie.Need-enum-told
 enum-told c = search needs
-
-code-requires : tie.Need-code-requires
-code-requires c κs = let a = c .before .before .before .before .before .before .before .before .before .before .args in trace-small (now (a .file)) (now (a .observations)) (length (now (a .colours))) _ _ (sym (c .before .before .before .before .before .trace .ensures .answer) ∙ ap tracedOutcome (c .before .why .given .1)) .1
 
 returns : tie.Need-returns
 returns c = told-accepted (c .before .before .before .before .before .before .trace .ensures) _ _ (c .tell-ride .result) _ (ap tracedOutcome (c .before .before .enum-told .given .1)) (c .tell-ride .ensures .0) (c .tell-ride .ensures .1)
@@ -38,7 +34,7 @@ pierhollow-trace-spec =
     (λ c. search needs)
     (λ c κs. search needs)
     (λ c. search needs)
-    code-requires
+    (λ c κs. search needs)
     (λ c. search needs)
     returns
     (λ c. search needs)

@@ -6,13 +6,9 @@ use borrow.Author.Needs.{needs}
 use denote.Ref.{now}
 use Rattle.unpacking.specs.Promise.{rooms, unpackedOutcome, unpackOf}
 use Rattle.layout.specs.Layout.{large}
-use Rattle.pierhollow.proofs.Places.{unpack-small}
 use Rattle.pierhollow.proofs.Telling.{told-accepted, told-refused}
 use Rattle.pierhollow.proofs.pierhollow_unpack.Statement.{statement}
 use Rattle.pierhollow.proofs.pierhollow_unpack.Tie as tie
-
-code-requires : tie.Need-code-requires
-code-requires c κs = let a = c .before .before .before .before .before .before .before .before .before .before .before .before .before .args in unpack-small (now (a .file)) (rooms (now (a .colours)) (now (a .edges))) _ _ (sym (c .before .before .before .before .before .before .before .unpack .ensures .answer) ∙ ap unpackedOutcome (c .before .why .given .1)) .1
 
 returns : tie.Need-returns
 returns c = told-accepted (c .before .before .before .before .before .before .before .before .before .unpack .ensures) _ _ (c .tell-reading .result) _ (ap unpackedOutcome (c .before .before .before .reading .given .1)) (c .tell-reading .ensures .0) (c .tell-reading .ensures .1)
@@ -28,7 +24,7 @@ pierhollow-unpack-spec =
     (λ c. search needs)
     (λ c κs. search needs)
     (λ c. search needs)
-    code-requires
+    (λ c κs. search needs)
     (λ c. search needs)
     (λ c. search needs)
     returns

@@ -1,0 +1,12 @@
+pub mod Profile
+pub mod Reader
+-- Laws of words, numbers and statements in a text.
+pub mod Words
+pub mod Numbers
+pub mod Lines
+pub mod More
+-- How far a text goes along with a set of texts.
+pub mod Stuck
+pub mod Places
+-- Theorems.
+pub mod Exact

@@ -1,0 +1,164 @@
+-- Reading a text of the profile byte by byte: what it is drawn from, or where it leaves the profile (document 02, wish 1). A place
+-- is counted from the text's beginning. That this place is the length of the longest beginning that some text of the profile
+-- also has is a theorem.
+-- Assumes nothing.
+use Prim.Native.Nat.{ℕ, zero, suc, _+_, _*_, _-_}
+use mathlib.Core.Bool.{Bool, _&&_}
+use mathlib.Core.List.{List, [], _∷_}
+use lib.Dec.{eqb, leb, ltb}
+use lib.ListN.{length, drop, getD}
+use Rattle.meaning.specs.Pick.{pick}
+use Rattle.meaning.specs.Filter as meaning
+use Rattle.layout.specs.Code.{edgeOf}
+use Rattle.drawing.specs.declared.Number.{Number}
+use Rattle.drawing.specs.declared.Labelled.{Labelled}
+use Rattle.drawing.specs.declared.Labelled.the-variants as labelled
+use Rattle.drawing.specs.declared.Statement.{Statement}
+use Rattle.drawing.specs.declared.Statement.the-variants as statement
+use Rattle.drawing.specs.declared.Line.{Line}
+use Rattle.drawing.specs.Profile.{opening, arrow, labelWord, lineEnd, closing}
+
+-- ---- words and numbers
+
+-- How many bytes a word and a text have in common at their beginnings.
+unfoldable pub common : List ℕ → List ℕ → ℕ
+common [] text = 0
+common (w ∷ word) [] = 0
+common (w ∷ word) (b ∷ text) = pick (eqb b w) (suc (common word text)) 0
+
+-- How many bytes of a word stand in the text from `at` on.
+abbrev pub matched : List ℕ → ℕ → List ℕ → ℕ
+matched text at word = common word (drop at text)
+
+-- The digit at a place; 10 where none stands there.
+abbrev pub digitOf : ℕ → ℕ
+digitOf byte = pick (leb 48 byte && leb byte 57) (byte - 48) 10
+
+unfoldable pub digitAt : List ℕ → ℕ → ℕ
+digitAt text at = digitOf (getD text at 0)
+
+abbrev pub numberTo : ℕ → ℕ → Number
+numberTo value end = record { value = value; end = end }
+
+-- The number of the digits at three places, the first of which is `at`: one to three digits without leading zeros; where no digit
+-- stands, the number ends where it was looked for.
+abbrev pub numeral : ℕ → ℕ → ℕ → ℕ → Number
+numeral at first second third =
+    pick (eqb first 10) (numberTo 0 at)
+    (pick (eqb first 0) (numberTo 0 (at + 1))
+    (pick (eqb second 10) (numberTo first (at + 1))
+    (pick (eqb third 10) (numberTo (first * 10 + second) (at + 2))
+    (numberTo ((first * 10 + second) * 10 + third) (at + 3)))))
+
+unfoldable pub numberAt : List ℕ → ℕ → Number
+numberAt text at = numeral at (digitAt text at) (digitAt text (at + 1)) (digitAt text (at + 2))
+
+-- ---- statements
+
+-- ` [label=`, a number, `];` and the newline.
+unfoldable pub labelledAt : List ℕ → ℕ → Labelled
+labelledAt text at =
+    let value = numberAt text (at + 8) in
+    pick (ltb (matched text at labelWord) 8) (labelled.Outside (at + matched text at labelWord))
+    (pick (eqb (value .end) (at + 8)) (labelled.Outside (at + 8))
+    (pick (ltb (matched text (value .end) lineEnd) 3) (labelled.Outside (value .end + matched text (value .end) lineEnd))
+    (labelled.Value (value .value) (value .end + 3))))
+
+abbrev pub stateOf : Labelled → Statement
+stateOf (labelled.Value colour end) = statement.State colour end
+stateOf (labelled.Outside place) = statement.Outside place
+
+abbrev pub edgeBetween : ℕ → ℕ → Labelled → Statement
+edgeBetween source target (labelled.Value label end) =
+    statement.Edge (record { source = source; label = label; target = target }) end
+edgeBetween source target (labelled.Outside place) = statement.Outside place
+
+-- A state's statement, behind its number.
+unfoldable pub stateFrom : List ℕ → ℕ → Statement
+stateFrom text at = stateOf (labelledAt text at)
+
+-- An edge's statement, behind its source.
+unfoldable pub edgeFrom : List ℕ → ℕ → ℕ → Statement
+edgeFrom text at source =
+    let target = numberAt text (at + 4) in
+    pick (ltb (matched text at arrow) 4) (statement.Outside (at + matched text at arrow))
+    (pick (eqb (target .end) (at + 4)) (statement.Outside (at + 4))
+    (edgeBetween source (target .value) (labelledAt text (target .end))))
+
+unfoldable pub closingAt : List ℕ → ℕ → Statement
+closingAt text at =
+    pick (ltb (matched text at closing) 2) (statement.Outside (at + matched text at closing)) (statement.Closing (at + 2))
+
+-- A number that ends at a place begins the next state's statement: ` [` stands behind it, not ` -`.
+abbrev pub beginsState : List ℕ → ℕ → ℕ → ℕ → Bool
+beginsState text at number next = eqb number next && eqb (getD text (at + 1) 0) 91
+
+-- The statement that begins at a place, where the next state's number is `next`. Another number may begin an edge.
+unfoldable pub statementAt : List ℕ → ℕ → ℕ → Statement
+statementAt text at next =
+    let first = numberAt text at in
+    pick (eqb (first .end) at) (closingAt text at)
+    (pick (beginsState text (first .end) (first .value) next) (stateFrom text (first .end))
+    (edgeFrom text (first .end) (first .value)))
+
+-- ---- the whole text
+
+-- What a text is drawn from; or the place at which it leaves the profile.
+pub data Read : Type 0 where
+  drawing : List ℕ → List meaning.Edge → Read
+  outside : ℕ → Read
+
+-- The colours and the edges of what was read; none outside the profile.
+abbrev pub coloursOf : Read → List ℕ
+coloursOf (drawing colours edges) = colours
+coloursOf (outside place) = []
+
+abbrev pub edgesOf : Read → List meaning.Edge
+edgesOf (drawing colours edges) = edges
+edgesOf (outside place) = []
+
+abbrev pub withState : ℕ → Read → Read
+withState colour (drawing colours edges) = drawing (colour ∷ colours) edges
+withState colour (outside place) = outside place
+
+abbrev pub withEdge : meaning.Edge → Read → Read
+withEdge e (drawing colours edges) = drawing colours (e ∷ edges)
+withEdge e (outside place) = outside place
+
+-- No statement has this number: with it as the next state's, only edges can follow.
+abbrev pub noState : ℕ
+noState = 1000
+
+-- What follows a statement; `following` reads the statements from a place on.
+abbrev pub behind : List ℕ → ℕ → (ℕ → ℕ → Read) → Statement → Read
+behind text next following (statement.State colour end) = withState colour (following end (suc next))
+behind text next following (statement.Edge e end) = withEdge (edgeOf e) (following end noState)
+behind text next following (statement.Closing end) = pick (eqb end (length text)) (drawing [] []) (outside end)
+behind text next following (statement.Outside place) = outside place
+
+-- At most `count` statements from a place on.
+unfoldable pub statementsFrom : ℕ → List ℕ → ℕ → ℕ → Read
+statementsFrom zero text at next = outside at
+statementsFrom (suc count) text at next = behind text next (statementsFrom count text) (statementAt text at next)
+
+-- A text has fewer statements than bytes.
+unfoldable pub readOf : List ℕ → Read
+readOf text =
+    pick (ltb (matched text 0 opening) 10) (outside (matched text 0 opening)) (statementsFrom (length text) text 10 0)
+
+-- ---- a second look, and the code's digits
+
+-- The edge whose statement stands at a place of a text of the profile.
+unfoldable pub lineAt : List ℕ → ℕ → Line
+lineAt text at =
+    let source = numberAt text at in
+    let target = numberAt text (source .end + 4) in
+    let label = numberAt text (target .end + 8) in
+    record {
+      edge = record { source = source .value; label = label .value; target = target .value };
+      end = label .end + 3;
+    }
+
+-- What the code has for a digit is 10 or more where there is none.
+abbrev pub clipped : ℕ → ℕ
+clipped d = pick (ltb d 10) d 10

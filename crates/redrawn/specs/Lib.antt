@@ -1,0 +1,4 @@
+-- Theorems.
+pub mod Redrawn
+pub mod Outside
+pub mod Longest

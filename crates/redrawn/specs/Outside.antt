@@ -1,0 +1,114 @@
+-- 15 of from_dot: it is answered for the texts that are not of the profile, with the length of the longest beginning that some text
+-- of the profile also has (document 02, wish 1).
+-- Assumes nothing.
+use Prim.Native.Nat.{ℕ, suc, _<_}
+use mathlib.Core.Path.{_≡_, refl, ap, _∙_}
+use mathlib.Core.Bool.{Bool, true, false, _&&_}
+use mathlib.Core.List.{List, [], _∷_}
+use mathlib.Core.Option.{Option, none, some}
+use native.Mathlib.Omega.{arith}
+use lib.Dec.{ltb}
+use borrow.Author.Tests.{ltb-true}
+use Rattle.meaning.specs.Pick.{pick}
+use Rattle.meaning.specs.Cases.{impossible, and-left, and-right}
+use Rattle.meaning.specs.Filter.{Edge, Filter, states, inside, comesBefore, samePlace}
+use Rattle.refusals.specs.Refusals.{Outcome, accepted, refused, Test, firstOf, roomTest}
+use Rattle.layout.specs.declared.Profile.{Profile}
+use Rattle.layout.specs.Layout.{lengthOf}
+use Rattle.edges.specs.Faults.{orderFault, edgeFault, Fault, faultAt, firstFault, edgesThen, placeInList}
+use Rattle.files.specs.Files.{writeTests, writeOf}
+use Rattle.drawing.specs.Profile.{InProfile, Longest, filterOf}
+use Rattle.drawing.specs.Reader.{Read, drawing, outside, readOf}
+use Rattle.drawing.specs.Exact.{read-profile, read-outside, longest-one}
+use Rattle.dot.specs.Promise.{fileOutcome, fromDotOf}
+
+-- ---- writing a filter never answers 15
+
+-- the number of an edge's fault, where it has one, is below ten
+abbrev Digit : Option ℕ → Type 0
+Digit o = (k : ℕ) → o ≡ some k → k < 10
+
+digit-none : Digit none
+digit-none k e = impossible cc
+
+digit-some : (n : ℕ) → n < 10 → Digit (some n)
+digit-some n h k e = let z : n ≡ k = cc in omega arith
+
+digit-pick : (b : Bool) (o p : Option ℕ) → Digit o → Digit p → Digit (pick b o p)
+digit-pick true o p h k = h
+digit-pick false o p h k = k
+
+order-digit : (before : Option Edge) (e : Edge) → Digit (orderFault before e)
+order-digit none e = digit-none
+order-digit (some b) e =
+    digit-pick (comesBefore e b) (some 8) (pick (samePlace e b) (some 9) none) (digit-some 8 (omega arith))
+    (digit-pick (samePlace e b) (some 9) none (digit-some 9 (omega arith)) digit-none)
+
+edge-digit : (n m : ℕ) (before : Option Edge) (e : Edge) → Digit (edgeFault n m before e)
+unfolding edgeFault
+edge-digit n m before e = digit-pick (inside n m e) (orderFault before e) (some 7) (order-digit before e) (digit-some 7 (omega arith))
+
+fault-at : (i : ℕ) (o : Option ℕ) (next : Option Fault) (f : Fault) → Digit o → (next ≡ some f → f .number < 10) → faultAt i o next ≡ some f → f .number < 10
+fault-at i (some k) next f d h e = let z : k ≡ f .number = cc in omega (arith, d k refl)
+fault-at i none next f d h e = h e
+
+fault-digit : (n m i : ℕ) (before : Option Edge) (es : List Edge) (f : Fault) → firstFault n m before i es ≡ some f → f .number < 10
+unfolding firstFault
+fault-digit n m i before [] f e = impossible cc
+fault-digit n m i before (d ∷ es) f e =
+    fault-at i (edgeFault n m before d) (firstFault n m (some d) (suc i) es) f (edge-digit n m before d) (fault-digit n m (suc i) (some d) es f) e
+
+-- another answer than 15
+abbrev Other : Outcome → Type 0
+Other o = (place : ℕ) → o ≡ refused 15 place → ⊥
+
+other-accepted : (vs : List ℕ) → Other (accepted vs)
+other-accepted vs place e = impossible cc
+
+other-refused : (k p : ℕ) → k < 15 → Other (refused k p)
+other-refused k p h place e = let z : k ≡ 15 = cc in omega arith
+
+other-test : (b : Bool) (k : ℕ) (next : Outcome) → k < 15 → Other next → Other (pick b (refused k 0) next)
+other-test true k next h o = other-refused k 0 h
+other-test false k next h o = o
+
+other-edges : (fault : Option Fault) (next : Outcome) → ((f : Fault) → fault ≡ some f → f .number < 10) → Other next → Other (edgesThen placeInList fault next)
+other-edges none next h o = o
+other-edges (some f) next h o = other-refused (f .number) (placeInList (f .index)) (omega (arith, h f refl))
+
+abbrev lessNumbers : List Test → Bool
+lessNumbers [] = true
+lessNumbers (t ∷ ts) = ltb (t .number) 15 && lessNumbers ts
+
+other-first : (ts : List Test) (next : Outcome) → lessNumbers ts ≡ true → Other next → Other (firstOf ts next)
+other-first [] next e o = o
+other-first (t ∷ ts) next e o =
+    other-test (t .given) (t .number) (firstOf ts next) (ltb-true (t .number) 15 (and-left (ltb (t .number) 15) (lessNumbers ts) e))
+    (other-first ts next (and-right (ltb (t .number) 15) (lessNumbers ts) e) o)
+
+-- 14, 2, 3, the edges' 7, 8 and 9, and 10
+write-other : (P : Profile) (F : Filter) (room : ℕ) → Other (writeOf P F true room)
+unfolding writeOf writeTests
+write-other P F room =
+    other-first (writeTests P F true) _ refl
+    (other-edges (firstFault (states F) (F .labels) none 0 (F .edges)) _ (fault-digit (states F) (F .labels) 0 none (F .edges))
+    (other-first (roomTest (lengthOf P F) room) (accepted (lengthOf P F ∷ [])) refl (other-accepted (lengthOf P F ∷ []))))
+
+-- ---- 15 and its place
+
+module _ (P : Profile) (text : List ℕ) (room place : ℕ) where
+  refused-at : (r : Read) → readOf text ≡ r → fileOutcome P r room ≡ refused 15 place → Longest InProfile text place × (InProfile text → ⊥)
+  refused-at (drawing colours edges) e h = absurd (write-other P (filterOf colours edges) room place h)
+  refused-at (outside p) e h = let z : p ≡ place = cc in read-outside text place (e ∙ ap outside z)
+
+  at-refused : (r : Read) → readOf text ≡ r → (InProfile text → ⊥) → Longest InProfile text place → fileOutcome P r room ≡ refused 15 place
+  at-refused (drawing colours edges) e never l = absurd (never (read-profile text colours edges e))
+  at-refused (outside p) e never l = ap (refused 15) (longest-one text (read-outside text p e .0) l)
+
+  -- where from_dot answers 15, the text is not of the profile, and the place is the length of the text's longest beginning that some
+  -- text of the profile also has; and so it answers wherever the text is not of the profile
+  pub place-in-text :
+      (fromDotOf P text room ≡ refused 15 place → Longest InProfile text place × (InProfile text → ⊥))
+      × ((InProfile text → ⊥) → Longest InProfile text place → fromDotOf P text room ≡ refused 15 place)
+  unfolding fromDotOf
+  place-in-text = (refused-at (readOf text) refl, at-refused (readOf text) refl)

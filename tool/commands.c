@@ -1,0 +1,106 @@
+#include "commands.h"
+
+#include <inttypes.h>
+#include <stdarg.h>
+#include <stdio.h>
+#include <string.h>
+
+static void print(struct bytes *output, const char *format, ...)
+{
+    va_list values;
+    va_start(values, format);
+    output->length += (size_t)vsnprintf((char *)output->at + output->length, output->room - output->length, format, values);
+    va_end(values);
+}
+
+static uint64_t check(struct work *work)
+{
+    uint64_t values[4];
+    uint64_t returned = pierhollow_check(work->input.at, work->input.length, values);
+    if (returned == 0)
+        print(&work->output, "%" PRIu64 " %" PRIu64 " %" PRIu64 " %" PRIu64 "\n", values[0], values[1], values[2], values[3]);
+    return returned;
+}
+
+static uint64_t from_dot(struct work *work)
+{
+    uint64_t length = 0;
+    uint64_t returned =
+        pierhollow_from_dot(work->input.at, work->input.length, work->output.at, PIERHOLLOW_LONGEST_FILE, &length);
+    work->output.length = (size_t)length;
+    return returned;
+}
+
+static uint64_t to_dot(struct work *work)
+{
+    uint64_t length = 0;
+    uint64_t returned =
+        pierhollow_to_dot(work->input.at, work->input.length, work->output.at, PIERHOLLOW_LONGEST_DRAWING, &length);
+    work->output.length = (size_t)length;
+    return returned;
+}
+
+static uint64_t reduce(struct work *work)
+{
+    uint64_t before[4];
+    uint64_t after[4];
+    uint8_t reduced[PIERHOLLOW_LONGEST_FILE];
+    uint16_t classes[PIERHOLLOW_MOST_STATES];
+    uint64_t returned = pierhollow_check(work->input.at, work->input.length, before);
+    if (returned != 0)
+        return returned;
+    returned = pierhollow_reduce(work->input.at, work->input.length, reduced, sizeof reduced,
+                                 classes, PIERHOLLOW_MOST_STATES, after);
+    if (returned != 0)
+        return returned;
+    print(&work->output, "%" PRIu64 " %" PRIu64 " %" PRIu64 " %" PRIu64 "\n", before[0], after[0], after[1], after[2]);
+    for (unsigned state = 0; state < before[0]; state++)
+        print(&work->output, "%u %u\n", state, (unsigned)classes[state]);
+    return 0;
+}
+
+static uint64_t shrink(struct work *work)
+{
+    uint64_t values[4] = {0, 0, 0, 0};
+    uint16_t classes[PIERHOLLOW_MOST_STATES];
+    uint64_t returned = pierhollow_reduce(work->input.at, work->input.length, work->output.at, PIERHOLLOW_LONGEST_FILE,
+                                          classes, PIERHOLLOW_MOST_STATES, values);
+    work->output.length = (size_t)values[3];
+    return returned;
+}
+
+static uint64_t trace(struct work *work)
+{
+    uint64_t values[2];
+    uint8_t colours[MOST_OBSERVATIONS + 1];
+    uint64_t returned = pierhollow_trace(work->input.at, work->input.length, work->observations.at,
+                                         work->observations.length, colours, sizeof colours, values);
+    if (returned != 0)
+        return returned;
+    bool stopped = values[0] != 0;
+    uint64_t taken = stopped ? values[1] : work->observations.length;
+    for (uint64_t i = 0; i <= taken; i++)
+        print(&work->output, "%u\n", (unsigned)colours[i]);
+    if (stopped)
+        print(&work->output, "stopped %" PRIu64 "\n", values[1]);
+    else
+        print(&work->output, "traced\n");
+    return 0;
+}
+
+static const struct command commands[] = {
+    {"check", false, false, check},
+    {"from-dot", true, false, from_dot},
+    {"to-dot", false, false, to_dot},
+    {"reduce", false, false, reduce},
+    {"shrink", false, false, shrink},
+    {"trace", false, true, trace},
+};
+
+const struct command *find_command(const char *name)
+{
+    for (size_t i = 0; i < sizeof commands / sizeof *commands; i++)
+        if (strcmp(commands[i].name, name) == 0)
+            return &commands[i];
+    return NULL;
+}

@@ -1,0 +1,97 @@
+#include "refusals.h"
+
+#include <inttypes.h>
+#include <stdio.h>
+#include <string.h>
+
+#include "pierhollow.h"
+
+struct position {
+    size_t line;
+    size_t column;
+};
+
+/* Both from 1, as editors count. */
+static struct position position_of(const struct bytes *text, uint64_t place)
+{
+    struct position position = {1, 1};
+    for (size_t i = 0; i < place && i < text->length; i++) {
+        position.column++;
+        if (text->at[i] == '\n')
+            position = (struct position){position.line + 1, 1};
+    }
+    return position;
+}
+
+/* Every edge has a line of its own, one behind another, and no other line has an arrow. */
+static size_t line_of_edge(const struct bytes *drawing, uint64_t edge)
+{
+    const uint8_t *arrow = memchr(drawing->at, '>', drawing->length);
+    uint64_t first = arrow == NULL ? 0 : (uint64_t)(arrow - drawing->at);
+    return position_of(drawing, first).line + (size_t)edge;
+}
+
+static const char *meaning(unsigned number)
+{
+    switch (number) {
+    case PIERHOLLOW_TOO_SHORT:
+        return "the file has fewer than 5 bytes";
+    case PIERHOLLOW_START:
+        return "the start is no state of the filter";
+    case PIERHOLLOW_EDGE_COUNT:
+        return "there are more edges than states times labels";
+    case PIERHOLLOW_MISSING:
+        return "the file has fewer bytes than its header asks for";
+    case PIERHOLLOW_EXCESS:
+        return "the file has more bytes than its header asks for";
+    case PIERHOLLOW_FILLING:
+        return "a filling bit at the end of the file is not 0";
+    case PIERHOLLOW_OUTSIDE:
+        return "source or target is no state, or the label no label";
+    case PIERHOLLOW_ORDER:
+        return "source and label come before those of the edge before it";
+    case PIERHOLLOW_REPEATED:
+        return "source and label equal those of the edge before it";
+    case PIERHOLLOW_ROOM:
+        return "there are more than 65,535 observations";
+    case PIERHOLLOW_OBSERVATION:
+        return "it is no label of the filter";
+    case PIERHOLLOW_LISTS:
+        return "there are not 1 to 256 states, or a colour or a label is above 63";
+    case PIERHOLLOW_DRAWING:
+        return "no drawing says this: the start is not state 0, or no edge has the last label";
+    default:
+        /* 10 and 11 are about rooms, and the rooms here are always long enough. */
+        return "there are no words for this number here";
+    }
+}
+
+static void tell_outside_the_profile(const struct bytes *drawing, uint64_t place)
+{
+    struct position position = position_of(drawing, place);
+    fprintf(stderr, "not a drawing of the profile: line %zu, column %zu%s\n", position.line, position.column,
+            place == drawing->length ? ", where the text ends" : "");
+}
+
+static void tell_edge(unsigned number, uint64_t edge, const struct bytes *drawing)
+{
+    fprintf(stderr, "edge %" PRIu64 ", counted from 0", edge);
+    if (drawing != NULL)
+        fprintf(stderr, ", on line %zu", line_of_edge(drawing, edge));
+    fprintf(stderr, ": %s\n", meaning(number));
+}
+
+void tell_refusal(uint64_t returned, const struct bytes *drawing)
+{
+    unsigned number = pierhollow_number(returned);
+    uint64_t place = pierhollow_place(returned);
+    fprintf(stderr, "refused %u %" PRIu64 ": ", number, place);
+    if (number == PIERHOLLOW_DRAWING && drawing != NULL)
+        tell_outside_the_profile(drawing, place);
+    else if (number >= PIERHOLLOW_OUTSIDE && number <= PIERHOLLOW_REPEATED)
+        tell_edge(number, place, drawing);
+    else if (number == PIERHOLLOW_OBSERVATION)
+        fprintf(stderr, "observation %" PRIu64 ", counted from 0: %s\n", place, meaning(number));
+    else
+        fprintf(stderr, "%s\n", meaning(number));
+}
