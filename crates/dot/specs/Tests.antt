@@ -1,18 +1,18 @@
--- What is asked for testing the edges of a text. No public call's promise speaks of these.
+-- What is asked for testing a text of the profile. No public call's promise speaks of it.
 -- Assumes nothing.
-use Prim.Native.Nat.{ℕ, _≤_}
-use mathlib.Core.Bool.{Bool, _&&_}
+use Prim.Native.Nat.{ℕ}
+use mathlib.Core.Path.{_≡_}
 use mathlib.Core.List.{List}
-use lib.Dec.{ltb}
-use Rattle.layout.specs.declared.edge.Edge.{Edge}
+use Rattle.layout.specs.declared.Profile.{Profile}
+use Rattle.layout.specs.Code.{Usable}
+use Rattle.edges.specs.declared.Verdict.{Verdict}
+use Rattle.edges.specs.Walk.{faultOf}
+use Rattle.drawing.specs.Reader.{edgesOf, readOf}
 use Rattle.surveying.specs.declared.Survey.{Survey}
-use Rattle.surveying.specs.Surveys.{Known}
+use Rattle.surveying.specs.Surveys.{Known, faultAmong}
 
--- A text of the profile with no more states and labels than a file has.
-pub record Testable (text : List ℕ) (s : Survey) : Type 0 where
+-- A text of the profile with its survey, and the first fault of its edges.
+pub record Testable (P : Profile) (text : List ℕ) (s : Survey) (verdict : Verdict) : Type 0 where
+  pub usable : Usable P
   pub known : Known text s
-  pub states : s .states ≤ 256
-  pub labels : s .labels ≤ 256
-
-abbrev pub byteEnds : Edge → Bool
-byteEnds e = ltb (e .source) 256 && ltb (e .target) 256
+  pub fault : faultOf verdict ≡ faultAmong (s .states) (edgesOf (readOf text))

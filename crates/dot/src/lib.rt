@@ -2,26 +2,22 @@
 use checking::Checked;
 use edges::Verdict;
 use layout::Profile;
-use layout::edge::Edge;
 use refusals::Kind;
 use refusals::Refusal;
 use surveying::Survey;
 use surveying::Surveyed;
 ghost use mathlib.Core.Path.{_≡_};
 ghost use mathlib.Core.List.{[], _∷_};
-ghost use mathlib.Core.Option.{none, some};
 ghost use lib.ListN.{length};
 ghost use Rattle.refusals.specs.Refusals.{accepted, firstOf, roomTest};
 ghost use Rattle.layout.specs.Layout.{large};
 ghost use Rattle.layout.specs.Code.{Usable};
-ghost use Rattle.edges.specs.Faults.{firstFault};
-ghost use Rattle.edges.specs.Walk.{faultOf};
 ghost use Rattle.files.specs.Files.{holdable};
 ghost use Rattle.checking.specs.Promise.{CheckPromise};
-ghost use Rattle.drawing.specs.Reader.{coloursOf, edgesOf, readOf};
+ghost use Rattle.drawing.specs.Reader.{coloursOf, readOf};
 ghost use Rattle.surveying.specs.Surveys.{Known};
 ghost use Rattle.dot.specs.Promise.{madeOutcome, fromDotOf, FromDotPromise, ToDotPromise};
-ghost use Rattle.dot.specs.Tests.{Testable, byteEnds};
+ghost use Rattle.dot.specs.Tests.{Testable};
 
 // The length of what was written; or why nothing was.
 pub enum Made {
@@ -35,7 +31,7 @@ pub fn from_dot(text: &[u8], room: &mut [u8]) -> Made
 {
     let surveyed = surveying::survey_of(text);
     match surveyed {
-        Surveyed::Inside(s) => file(layout::large(), text, s, room),
+        Surveyed::Inside(s, verdict) => file(layout::large(), text, s, verdict, room),
         Surveyed::Outside(place) => Made::Refused(Refusal {
             kind: Kind::Drawing,
             place,
@@ -44,11 +40,11 @@ pub fn from_dot(text: &[u8], room: &mut [u8]) -> Made
 }
 
 // The same for a text of the profile.
-fn file(p: Profile, text: &[u8], s: Survey, room: &mut [u8]) -> Made
-    requires { ⌜ Usable p × Known (now text) s ⌝ }
+fn file(p: Profile, text: &[u8], s: Survey, verdict: Verdict, room: &mut [u8]) -> Made
+    requires { ⌜ Testable p (now text) s verdict ⌝ }
     ensures { λ r. ⌜ FromDotPromise p (now (text .entry)) (now (room .entry)) r (now (room .exit)) ⌝ }
 {
-    let answer = test(p, text, s, room.len());
+    let answer = test(p, text, s, verdict, room.len());
     let Made::Accepted(length) = answer else {
         return answer;
     };
@@ -63,8 +59,8 @@ fn not_made(kind: Kind) -> Made
 }
 
 // What is answered for a text of the profile and the length of a room. The start is 0, so that 2 is never given.
-fn test(p: Profile, text: &[u8], s: Survey, room: usize) -> Made
-    requires { ⌜ Usable p × Known (now text) s ⌝ }
+fn test(p: Profile, text: &[u8], s: Survey, verdict: Verdict, room: usize) -> Made
+    requires { ⌜ Testable p (now text) s verdict ⌝ }
     ensures { λ r. ⌜ madeOutcome r ≡ fromDotOf p (now (text .entry)) room ⌝ }
 {
     let n = s.states;
@@ -75,7 +71,6 @@ fn test(p: Profile, text: &[u8], s: Survey, room: usize) -> Made
     if n * s.labels < e {
         return not_made(Kind::EdgeCount);
     }
-    let verdict = test_edges(text, s);
     let Verdict::Faulty(why) = verdict else {
         return test_room(layout::bytes_for(layout::file_bits(p, n, e)), room);
     };
@@ -109,50 +104,6 @@ fn holdable(p: Profile, text: &[u8], s: Survey) -> bool
     s.colours <= (1usize << p.colour)
 }
 
-// The first fault of the edges. A text's numbers may be larger than a byte.
-fn test_edges(text: &[u8], s: Survey) -> Verdict
-    requires { ⌜ Testable (now text) s ⌝ }
-    ensures { λ r. ⌜ faultOf r ≡ firstFault (s .states) (s .labels) none 0 (edgesOf (readOf (now (text .entry)))) ⌝ }
-{
-    let mut at = s.begin;
-    let mut last = 0;
-    let mut i = 0;
-    while i < s.edges {
-        let line = drawing::line_at(text, at);
-        let edge = line.edge;
-        if !byte_ends(edge) {
-            return outside(i);
-        }
-        let verdict = edges::test(s.states, s.labels, i, last, edge);
-        let Verdict::Faultless = verdict else {
-            return verdict;
-        };
-        last = edges::rank(edge);
-        at = line.end;
-        i += 1;
-    }
-    Verdict::Faultless
-}
-
-// Whether an edge's ends are bytes. Others are no states of any file.
-fn byte_ends(edge: Edge) -> bool
-    ensures { λ r. ⌜ r ≡ byteEnds edge ⌝ }
-{
-    if 256 <= edge.source {
-        return false;
-    }
-    edge.target < 256
-}
-
-fn outside(i: usize) -> Verdict
-    ensures { λ r. ⌜ faultOf r ≡ some (record { number = 7; index = i }) ⌝ }
-{
-    Verdict::Faulty(Refusal {
-        kind: Kind::Outside,
-        place: i,
-    })
-}
-
 // Writes the drawing of a file's filter, and answers its length.
 pub fn to_dot(file: &[u8], room: &mut [u8]) -> Made
     ensures { λ r. ⌜ ToDotPromise large (now (file .entry)) (now (room .entry)) r (now (room .exit)) ⌝ }
@@ -170,7 +121,8 @@ fn draw(p: Profile, checked: Checked, file: &[u8], room: &mut [u8]) -> Made
     };
     let n = r.states;
     let e = r.edges;
-    let extent = plotting::extent_of(p, file, n, e);
+    let colours = loading::colours_of(p, file, n);
+    let extent = plotting::extent_of(p, file, &colours, n, e);
     if r.start != 0 {
         return not_made(Kind::Drawing);
     }
@@ -180,6 +132,6 @@ fn draw(p: Profile, checked: Checked, file: &[u8], room: &mut [u8]) -> Made
     if room.len() < extent.length {
         return not_made(Kind::AnswerRoom);
     }
-    plotting::put(p, file, n, e, room);
+    plotting::put(p, file, &colours, n, e, room);
     Made::Accepted(extent.length)
 }

@@ -1,14 +1,15 @@
 -- What a byte is as a digit.
 -- Assumes nothing.
-use mathlib.Core.Path.{_≡_, ap}
+use mathlib.Core.Path.{_≡_, refl, ap}
+use mathlib.Core.Bool.{true, false}
 use mathlib.Core.List.{List}
 use Prim.Native.Nat.{ℕ, _+_, _%_, _≤_, _<_}
 use native.Mathlib.Omega.{arith}
-use lib.Dec.{leb}
+use lib.Dec.{eqb, leb}
 use lib.ListN.{length, List·getD-eq-default}
-use borrow.Author.Tests.{le-leb, lt-leb, leb-true, leb-false, lt-ltb, le-ltb}
+use borrow.Author.Tests.{le-leb, lt-leb, leb-true, leb-false, lt-ltb, le-ltb, eq-eqb, ne-eqb}
 use Rattle.meaning.specs.Cases.{cases-of}
-use Rattle.drawing.specs.Reader.{digitOf, digitAt, clipped}
+use Rattle.drawing.specs.Reader.{digitOf, digitAt, clipped, numeral, numberAt}
 
 pub no-digit : (d : ℕ) → 9 < d → clipped d ≡ 10
 no-digit d h = rw (le-ltb d 10 (omega arith))
@@ -31,3 +32,21 @@ byte-digit b h = cases-of (leb 48 b)
 pub past-end : (text : List ℕ) (at : ℕ) → length text ≤ at → digitAt text at ≡ 10
 unfolding digitAt
 past-end text at h = ap digitOf (List·getD-eq-default text 0 h)
+
+-- ---- where a number stands its first digit does
+
+numeral-some : (at a b c : ℕ) → eqb a 10 ≡ false → eqb (numeral at a b c .end) at ≡ false
+numeral-some at a b c q = cases-of (eqb a 0) (λ r. rw (q, r) (ne-eqb (at + 1) at (λ z. omega arith)))
+    (λ r. cases-of (eqb b 10) (λ s. rw (q, r, s) (ne-eqb (at + 1) at (λ z. omega arith)))
+    (λ s. cases-of (eqb c 10) (λ t. rw (q, r, s, t) (ne-eqb (at + 2) at (λ z. omega arith))) (λ t. rw (q, r, s, t) (ne-eqb (at + 3) at (λ z. omega arith)))))
+
+module _ (text : List ℕ) (at : ℕ) {d : ℕ} (e : digitAt text at ≡ clipped d) where
+  pub no-number : 9 < d → eqb (numberAt text at .end) at ≡ true
+  unfolding numberAt
+  no-number h = rw (e, no-digit d h) (eq-eqb at at refl)
+
+  pub a-number : d ≤ 9 → eqb (numberAt text at .end) at ≡ false
+  unfolding numberAt
+  a-number h =
+      let q : eqb (digitAt text at) 10 ≡ false = rw (e, a-digit d h) (ne-eqb d 10 (λ z. omega arith)) in
+      numeral-some at (digitAt text at) (digitAt text (at + 1)) (digitAt text (at + 2)) q

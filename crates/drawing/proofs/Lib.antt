@@ -1,3 +1,4 @@
 pub mod Told
 pub mod Matching
 pub mod Digits
+pub mod Targets

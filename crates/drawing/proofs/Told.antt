@@ -2,18 +2,10 @@
 -- Assumes nothing.
 use mathlib.Core.Path.{_≡_, sym, _∙_}
 use mathlib.Core.Bool.{Bool, true, false, not}
-use Prim.Native.Nat.{ℕ, _≤_, _<_}
+use Prim.Native.Nat.{ℕ, _≤_}
 use native.Mathlib.Omega.{arith}
-use borrow.Author.Tests.{eqb-true, eqb-false, lt-ltb, le-ltb, not-true, not-false}
+use borrow.Author.Tests.{eqb-true, eqb-false, lt-ltb, not-true, not-false}
 use lib.Dec.{eqb, ltb}
-
--- A number.
-module _ {told is : ℕ} (e : told ≡ is) {k : ℕ} where
-  pub below : told < k → ltb is k ≡ true
-  below h = lt-ltb is k (omega (arith, e))
-
-  pub enough : k ≤ told → ltb is k ≡ false
-  enough h = le-ltb is k (omega (arith, e))
 
 -- A word that was looked for, of which so many bytes stand there.
 module _ {told : Bool} {bytes length : ℕ} (e : told ≡ eqb bytes length) where

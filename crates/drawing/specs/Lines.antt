@@ -20,7 +20,7 @@ use Rattle.drawing.specs.declared.Statement.{Statement}
 use Rattle.drawing.specs.declared.Statement.the-variants as statement
 use Rattle.drawing.specs.declared.Line.{Line}
 use Rattle.drawing.specs.Profile.{arrow, labelWord, lineEnd, closing, labelled, stateLine, edgeLine, shortEdge}
-use Rattle.drawing.specs.Reader.{matched, numberTo, numberAt, labelledAt, stateOf, edgeBetween, stateFrom, edgeFrom, closingAt, statementAt, lineAt}
+use Rattle.drawing.specs.Reader.{matched, numberTo, numberAt, labelledAt, stateOf, edgeBetween, stateFrom, edgeFrom, targetAt, closingAt, statementAt, lineAt}
 use Rattle.drawing.specs.Words.{Stands, stands-of, stands-inside, stands-then, stands-split, matched-inside, matched-stands, matched-of}
 use Rattle.drawing.specs.Numbers.{decimal-some, number-end, number-sound, number-read, number-none}
 
@@ -83,7 +83,7 @@ edge-is next source target (labelled.Value label end) h k s t u x =
 edge-is next source target (labelled.Outside place) h k s t u x = (omega (arith, s .ends, t .ends, u .ends, x .0), x .1)
 
 pub statement-is : (text : List ℕ) (at next : ℕ) → at ≤ length text → StatementIs text at next (statementAt text at next)
-unfolding statementAt closingAt stateFrom edgeFrom
+unfolding statementAt closingAt stateFrom edgeFrom targetAt
 statement-is text at next h =
     let first = numberAt text at in
     let target = numberAt text (first .end + 4) in
@@ -194,7 +194,7 @@ edge-read {text} {at} {end} e s h =
 
 pub read-edge : {text : List ℕ} {at end : ℕ} (next : ℕ) (e : meaning.Edge) → Stands text at (edgeLine e) end → shortEdge e ≡ true →
     statementAt text at next ≡ statement.Edge (record { source = e .source; label = e .label; target = e .target }) end
-unfolding statementAt edgeFrom
+unfolding statementAt edgeFrom targetAt
 read-edge {text} {at} {end} next e s h =
     let x = edge-read e s h in
     let dash : getD text (x .behind + 1) 0 ≡ 45 = sym (getD-drop (x .behind) text 1 0) ∙ rw (x .arrow-there .is) in

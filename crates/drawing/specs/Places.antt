@@ -21,7 +21,7 @@ use Rattle.drawing.specs.declared.Labelled.the-variants as labelled
 use Rattle.drawing.specs.declared.Statement.{Statement}
 use Rattle.drawing.specs.declared.Statement.the-variants as statement
 use Rattle.drawing.specs.Profile.{arrow, labelWord, lineEnd, closing, labelled, stateLine, edgeLine, stateLines, edgeLines, shortEdge, Begins}
-use Rattle.drawing.specs.Reader.{matched, numberAt, labelledAt, stateOf, edgeBetween, stateFrom, edgeFrom, closingAt, statementAt, noState}
+use Rattle.drawing.specs.Reader.{matched, numberAt, labelledAt, stateOf, edgeBetween, stateFrom, edgeFrom, targetAt, closingAt, statementAt, noState}
 use Rattle.drawing.specs.Words.{Stands, matched-stands, same-byte}
 use Rattle.drawing.specs.Numbers.{number-none, number-sound}
 use Rattle.drawing.specs.Lines.{short-parts, short-edge}
@@ -232,7 +232,7 @@ after-edge next text place source target (labelled.Value value end) h = h
 after-edge next text place source target (labelled.Outside q) h = h
 
 at-arrows : (next : ℕ) (text : List ℕ) (at place source : ℕ) → After next text place (edgeFrom text at source) → StuckAt Arrows text at place
-unfolding edgeFrom
+unfolding edgeFrom targetAt
 at-arrows next text at place source h =
     let target = numberAt text (at + 4) in
     let label = some-labels (some-lines noState (omega arith)) in

@@ -3,7 +3,7 @@
 -- also has is a theorem.
 -- Assumes nothing.
 use Prim.Native.Nat.{ℕ, zero, suc, _+_, _*_, _-_}
-use mathlib.Core.Bool.{Bool, _&&_}
+use mathlib.Core.Bool.{Bool, true, false, _&&_}
 use mathlib.Core.List.{List, [], _∷_}
 use lib.Dec.{eqb, leb, ltb}
 use lib.ListN.{length, drop, getD}
@@ -77,13 +77,20 @@ edgeBetween source target (labelled.Outside place) = statement.Outside place
 unfoldable pub stateFrom : List ℕ → ℕ → Statement
 stateFrom text at = stateOf (labelledAt text at)
 
--- An edge's statement, behind its source.
-unfoldable pub edgeFrom : List ℕ → ℕ → ℕ → Statement
-edgeFrom text at source =
+-- ` -> ` and an edge's target, behind its source.
+unfoldable pub targetAt : List ℕ → ℕ → Labelled
+targetAt text at =
     let target = numberAt text (at + 4) in
-    pick (ltb (matched text at arrow) 4) (statement.Outside (at + matched text at arrow))
-    (pick (eqb (target .end) (at + 4)) (statement.Outside (at + 4))
-    (edgeBetween source (target .value) (labelledAt text (target .end))))
+    pick (ltb (matched text at arrow) 4) (labelled.Outside (at + matched text at arrow))
+    (pick (eqb (target .end) (at + 4)) (labelled.Outside (at + 4)) (labelled.Value (target .value) (target .end)))
+
+-- An edge's statement, behind its source: the target, and then the label.
+abbrev pub edgeBehind : List ℕ → ℕ → Labelled → Statement
+edgeBehind text source (labelled.Value target end) = edgeBetween source target (labelledAt text end)
+edgeBehind text source (labelled.Outside place) = statement.Outside place
+
+unfoldable pub edgeFrom : List ℕ → ℕ → ℕ → Statement
+edgeFrom text at source = edgeBehind text source (targetAt text at)
 
 unfoldable pub closingAt : List ℕ → ℕ → Statement
 closingAt text at =
@@ -146,7 +153,7 @@ unfoldable pub readOf : List ℕ → Read
 readOf text =
     pick (ltb (matched text 0 opening) 10) (outside (matched text 0 opening)) (statementsFrom (length text) text 10 0)
 
--- ---- a second look, and the code's digits
+-- ---- a second look, and what the code has
 
 -- The edge whose statement stands at a place of a text of the profile.
 unfoldable pub lineAt : List ℕ → ℕ → Line
@@ -158,6 +165,11 @@ lineAt text at =
       edge = record { source = source .value; label = label .value; target = target .value };
       end = label .end + 3;
     }
+
+-- A statement from its numbers and its label, as the code has it: a state's target is 0.
+abbrev pub statementOf : Bool → ℕ → ℕ → Labelled → Statement
+statementOf true source target label = stateOf label
+statementOf false source target label = edgeBetween source target label
 
 -- What the code has for a digit is 10 or more where there is none.
 abbrev pub clipped : ℕ → ℕ

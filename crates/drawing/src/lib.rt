@@ -5,10 +5,11 @@ ghost use mathlib.Core.Path.{_≡_};
 ghost use Prim.Native.Nat.{_+_, _≤_, _<_, _^_};
 ghost use lib.Dec.{eqb};
 ghost use lib.ListN.{length, getD};
+ghost use Rattle.meaning.specs.Pick.{pick};
 ghost use Rattle.drawing.specs.Profile.{larger};
 ghost use Rattle.drawing.specs.Reader.{matched, digitOf, digitAt, clipped, numeral, numberAt, labelledAt};
-ghost use Rattle.drawing.specs.Reader.{stateFrom, edgeFrom, closingAt};
-ghost use Rattle.drawing.specs.Reader.{beginsState, statementAt, lineAt};
+ghost use Rattle.drawing.specs.Reader.{closingAt, beginsState, statementAt};
+ghost use Rattle.drawing.specs.Reader.{targetAt, statementOf, lineAt};
 
 // A number and the place behind it; where none stands, it ends where it was looked for.
 pub struct Number {
@@ -16,7 +17,7 @@ pub struct Number {
     pub end: usize,
 }
 
-// A label's number and the place behind its statement; or where the text leaves the profile.
+// A number behind the word before it, and the place behind what it stands in; or where the text leaves the profile.
 pub enum Labelled {
     Value(usize, usize),
     Outside(usize),
@@ -55,7 +56,7 @@ pub fn matched(text: &[u8], at: usize, word: &[u8]) -> usize
 }
 
 // Whether a word stands in the text from `at` on. All of its bytes are compared, so that it is one comparison in the processor.
-fn stands(text: &[u8], at: usize, word: &[u8]) -> bool
+pub fn stands(text: &[u8], at: usize, word: &[u8]) -> bool
     requires { ⌜ at ≤ length (now text) ⌝ }
     ensures { λ r. ⌜ r ≡ eqb (matched (now (text .entry)) at (now (word .entry))) (length (now (word .entry))) ⌝ }
 {
@@ -168,29 +169,22 @@ fn label_at(text: &[u8], at: usize) -> Labelled
     Labelled::Value(value.value, value.end + 3)
 }
 
-// The rest of an edge's statement, behind its source.
-fn edge_from(text: &[u8], at: usize, source: usize) -> Statement
+// ` -> ` and the target of an edge, behind its source. A state has no target: 0 stands for it, and nothing is read.
+fn target_at(text: &[u8], at: usize, state: bool) -> Labelled
     requires { ⌜ at ≤ length (now text) ⌝ }
-    ensures { λ r. ⌜ r ≡ edgeFrom (now (text .entry)) at source ⌝ }
+    ensures { λ r. ⌜ r ≡ pick state (Labelled.Value 0 at) (targetAt (now (text .entry)) at) ⌝ }
 {
+    if state {
+        return Labelled::Value(0, at);
+    }
     if !stands(text, at, b" -> ") {
-        return Statement::Outside(at + matched(text, at, b" -> "));
+        return Labelled::Outside(at + matched(text, at, b" -> "));
     }
     let target = number_at(text, at + 4);
     if target.end == at + 4 {
-        return Statement::Outside(at + 4);
+        return Labelled::Outside(at + 4);
     }
-    match label_at(text, target.end) {
-        Labelled::Value(label, end) => Statement::Edge(
-            Edge {
-                source,
-                label,
-                target: target.value,
-            },
-            end,
-        ),
-        Labelled::Outside(place) => Statement::Outside(place),
-    }
+    Labelled::Value(target.value, target.end)
 }
 
 // The closing brace and its newline.
@@ -198,22 +192,10 @@ fn closing_at(text: &[u8], at: usize) -> Statement
     requires { ⌜ at ≤ length (now text) ⌝ }
     ensures { λ r. ⌜ r ≡ closingAt (now (text .entry)) at ⌝ }
 {
-    let brace = matched(text, at, b"}\n");
-    if brace < 2 {
-        return Statement::Outside(at + brace);
+    if !stands(text, at, b"}\n") {
+        return Statement::Outside(at + matched(text, at, b"}\n"));
     }
     Statement::Closing(at + 2)
-}
-
-// The rest of a state's statement, behind its number.
-fn state_from(text: &[u8], at: usize) -> Statement
-    requires { ⌜ at ≤ length (now text) ⌝ }
-    ensures { λ r. ⌜ r ≡ stateFrom (now (text .entry)) at ⌝ }
-{
-    match label_at(text, at) {
-        Labelled::Value(colour, end) => Statement::State(colour, end),
-        Labelled::Outside(place) => Statement::Outside(place),
-    }
 }
 
 // The statement that begins at `at`, where a state's has the number `next`.
@@ -221,15 +203,44 @@ pub fn statement_at(text: &[u8], at: usize, next: usize) -> Statement
     requires { ⌜ at ≤ length (now text) ⌝ }
     ensures { λ r. ⌜ r ≡ statementAt (now (text .entry)) at next ⌝ }
 {
-    let first = number_at(text, at);
-    let behind = first.end;
-    if behind == at {
+    if 9 < digit_at(text, at) {
         return closing_at(text, at);
     }
-    if begins_state(text, behind, first.value, next) {
-        return state_from(text, behind);
+    let first = number_at(text, at);
+    let behind = first.end;
+    let state = begins_state(text, behind, first.value, next);
+    let target = target_at(text, behind, state);
+    match target {
+        Labelled::Value(to, end) => rest_at(text, end, state, first.value, to),
+        Labelled::Outside(place) => Statement::Outside(place),
     }
-    edge_from(text, behind, first.value)
+}
+
+// The rest of a statement, which is its label. Labels of both kinds are read here, so that the reading is inlined.
+fn rest_at(text: &[u8], at: usize, state: bool, source: usize, target: usize) -> Statement
+    requires { ⌜ at ≤ length (now text) ⌝ }
+    ensures { λ r. ⌜ r ≡ statementOf state source target (labelledAt (now (text .entry)) at) ⌝ }
+{
+    match label_at(text, at) {
+        Labelled::Value(label, end) => statement_of(state, source, target, label, end),
+        Labelled::Outside(place) => Statement::Outside(place),
+    }
+}
+
+fn statement_of(state: bool, source: usize, target: usize, label: usize, end: usize) -> Statement
+    ensures { λ r. ⌜ r ≡ statementOf state source target (Labelled.Value label end) ⌝ }
+{
+    if state {
+        return Statement::State(label, end);
+    }
+    Statement::Edge(
+        Edge {
+            source,
+            label,
+            target,
+        },
+        end,
+    )
 }
 
 // Whether a number that ends at `at` begins the next state's statement: ` [` stands behind it, not ` -`.

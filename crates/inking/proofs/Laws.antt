@@ -12,11 +12,15 @@ use lib.Seq.{drop-cons, take-suc}
 use borrow.Author.Tests.{ltb-true}
 use Rattle.meaning.specs.Cases.{and-left, and-right}
 use Rattle.meaning.specs.Filter.{Edge, each}
-use Rattle.pen.specs.Runs.{Fit}
+use Rattle.bits.specs.Bits.{putField}
+use Rattle.bits.proofs.Writing.{length-put}
+use Rattle.pen.specs.declared.Pen.{Pen}
+use Rattle.pen.specs.Runs.{putFields, inked, Fit}
+use Rattle.pen.proofs.Runs.{puts-append}
 use Rattle.layout.specs.declared.Profile.{Profile}
-use Rattle.layout.specs.Layout.{edgeWidths, flat}
+use Rattle.layout.specs.Layout.{edgesBegin, fileBits, fillBits, edgeWidths, flat}
 use Rattle.layout.specs.Code.{Usable, edgeOf}
-use Rattle.layout.proofs.EdgeLists.{flat-append}
+use Rattle.layout.proofs.EdgeLists.{flat-append, total-edges, length-widths, length-flat}
 use Rattle.files.specs.Files.{allBelow}
 use Rattle.files.specs.Tests.{Writable}
 use Rattle.files.specs.Written.{below-at, states≤256, count≤65536}
@@ -30,6 +34,10 @@ use Rattle.drawing.specs.Exact.{read-sound}
 use Rattle.surveying.specs.declared.Survey.{Survey}
 use Rattle.surveying.specs.Surveys.{Known}
 use Rattle.inking.specs.Inking.{filterRead}
+
+pub inked-length : (s : List ℕ) (pen : Pen) → length (inked s pen) ≡ length s
+unfolding inked
+inked-length s pen = length-put s (pen .at * 8) (pen .bits) (pen .held)
 
 -- ---- lists of edges
 
@@ -52,6 +60,17 @@ unfolding Fit edgeWidths flat
 edge-fit P [] i f l = absurd (omega arith)
 edge-fit P (e ∷ es) zero f l = (f .0, f .1 .0, f .1 .1 .0)
 edge-fit P (e ∷ es) (suc i) f l = edge-fit P es i (f .1 .1 .1) (omega arith)
+
+-- edges and the filling behind them
+pub edges-filled : (P : Profile) (r : List ℕ) (n : ℕ) (es : List Edge) →
+    putFields r (edgesBegin P n) (edgeWidths P (length es) ++ (fillBits P n (length es) ∷ [])) (flat es ++ (0 ∷ []))
+    ≡ putField (putFields r (edgesBegin P n) (edgeWidths P (length es)) (flat es)) (fileBits P n (length es)) (fillBits P n (length es)) 0
+unfolding putFields fileBits
+edges-filled P r n es =
+    let e = length es in
+    let edges = putFields r (edgesBegin P n) (edgeWidths P e) (flat es) in
+    puts-append r (edgesBegin P n) (edgeWidths P e) (fillBits P n e ∷ []) (flat es) (0 ∷ []) (length-widths P e ∙ sym (length-flat es))
+    ∙ ap (λ (k : ℕ). putField edges (edgesBegin P n + k) (fillBits P n e) 0) (total-edges P e)
 
 -- ---- how long statements are
 

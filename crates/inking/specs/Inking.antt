@@ -4,6 +4,8 @@ use Prim.Native.Nat.{ℕ, _/_, _≤_}
 use mathlib.Core.List.{List}
 use lib.ListN.{length}
 use Rattle.meaning.specs.Filter.{Filter}
+use Rattle.pen.specs.declared.Pen.{Pen}
+use Rattle.pen.specs.Runs.{Ready, placeOf}
 use Rattle.layout.specs.declared.Profile.{Profile}
 use Rattle.layout.specs.Layout.{lengthOf}
 use Rattle.layout.specs.Code.{Usable}
@@ -24,7 +26,15 @@ pub record Inkable (P : Profile) (text : List ℕ) (s : Survey) (room : List ℕ
   pub writable : Writable P (filterRead (readOf text))
   pub roomy : lengthOf P (filterRead (readOf text)) ≤ length room
 
--- The same for the part from a bit on.
+-- A pen that has come to the colours.
+pub record Begun (P : Profile) (text : List ℕ) (s : Survey) (pen : Pen) : Type 0 where
+  pub usable : Usable P
+  pub known : Known text s
+  pub writable : Writable P (filterRead (readOf text))
+  pub ready : Ready pen
+  pub begin : placeOf pen ≤ 48
+
+-- The part of a room from a bit on, for the edges.
 pub record Placeable (P : Profile) (text : List ℕ) (s : Survey) (bit : ℕ) (room : List ℕ) : Type 0 where
   pub usable : Usable P
   pub known : Known text s

@@ -1,14 +1,17 @@
 // The file of the filter that a text draws, written into a room that holds it. The text is read again, so that nothing as long as it
 // has to be kept; its words need no second look.
 use layout::Profile;
+use pen::Pen;
 use surveying::Survey;
 ghost use mathlib.Core.Path.{_≡_};
+ghost use mathlib.Core.List.{[], _∷_, _++_};
 ghost use lib.ListN.{length, replicate};
-ghost use Rattle.pen.specs.Runs.{putFields};
+ghost use Rattle.bits.specs.Bits.{putField};
+ghost use Rattle.pen.specs.Runs.{putFields, inked, placeOf, Pushable};
 ghost use Rattle.refusals.specs.Refusals.{laid};
-ghost use Rattle.layout.specs.Layout.{edgeWidths, flat, written};
+ghost use Rattle.layout.specs.Layout.{edgeWidths, fillBits, flat, written};
 ghost use Rattle.drawing.specs.Reader.{coloursOf, edgesOf, readOf};
-ghost use Rattle.inking.specs.Inking.{filterRead, Inkable, Placeable};
+ghost use Rattle.inking.specs.Inking.{filterRead, Inkable, Begun, Placeable};
 
 // Writes the file of a text's filter, which was tested.
 pub fn write(p: Profile, text: &[u8], s: Survey, room: &mut [u8])
@@ -16,21 +19,19 @@ pub fn write(p: Profile, text: &[u8], s: Survey, room: &mut [u8])
     ensures { λ _. ⌜ now (room .exit) ≡ laid (written p (filterRead (readOf (now (text .entry))))) (now (room .entry)) ⌝ }
 {
     let n = s.states;
-    let e = s.edges;
-    layout::header::put(p, room, n, s.labels, 0, e);
-    put_colours(p, room, layout::header_bits(p), text, s);
+    let pen = layout::header::begin(p, room, n, s.labels, 0, s.edges);
+    put_colours(p, room, pen, text, s);
     put_edges(p, room, layout::edges_begin(p, n), text, s);
-    layout::fill(p, room, n, e);
 }
 
-// Writes the colours from bit `bit` on.
-fn put_colours(p: Profile, room: &mut [u8], bit: usize, text: &[u8], s: Survey)
-    requires { ⌜ Placeable p (now text) s bit (now room) ⌝ }
-    ensures { λ _. ⌜ now (room .exit) ≡
-        putFields (now (room .entry)) bit (replicate (s .states) (p .colour)) (coloursOf (readOf (now (text .entry)))) ⌝ }
+// Writes the colours behind what the pen holds.
+fn put_colours(p: Profile, room: &mut [u8], begun: Pen, text: &[u8], s: Survey)
+    requires { ⌜ Begun p (now text) s begun ⌝ }
+    ensures { λ _. ⌜ now (room .exit) ≡ putFields (inked (now (room .entry)) begun) (placeOf begun)
+        (replicate (s .states) (p .colour)) (coloursOf (readOf (now (text .entry)))) ⌝ }
 {
     let n = s.states;
-    let mut pen = pen::begin(room, bit);
+    let mut pen = begun;
     let mut at = 10;
     let mut i = 0;
     while i < n {
@@ -43,12 +44,12 @@ fn put_colours(p: Profile, room: &mut [u8], bit: usize, text: &[u8], s: Survey)
     pen::finish(room, pen);
 }
 
-// Writes the edges behind the colours, from bit `bit` on: the room's later part is lent on, with the starting bit inside its
-// first byte.
+// Writes the edges behind the colours, from bit `bit` on, and zero bits to the end of the byte: the room's later part is lent on,
+// with the starting bit inside its first byte.
 fn put_edges(p: Profile, room: &mut [u8], bit: usize, text: &[u8], s: Survey)
     requires { ⌜ Placeable p (now text) s bit (now room) ⌝ }
-    ensures { λ _. ⌜ now (room .exit) ≡
-        putFields (now (room .entry)) bit (edgeWidths p (s .edges)) (flat (edgesOf (readOf (now (text .entry))))) ⌝ }
+    ensures { λ _. ⌜ now (room .exit) ≡ putFields (now (room .entry)) bit
+        (edgeWidths p (s .edges) ++ (fillBits p (s .states) (s .edges) ∷ [])) (flat (edgesOf (readOf (now (text .entry)))) ++ (0 ∷ [])) ⌝ }
 {
     let from = bit / 8;
     put_all(p, &mut room[from..], bit % 8, text, s);
@@ -56,8 +57,8 @@ fn put_edges(p: Profile, room: &mut [u8], bit: usize, text: &[u8], s: Survey)
 
 fn put_all(p: Profile, part: &mut [u8], bit: usize, text: &[u8], s: Survey)
     requires { ⌜ Placeable p (now text) s bit (now part) ⌝ }
-    ensures { λ _. ⌜ now (part .exit) ≡
-        putFields (now (part .entry)) bit (edgeWidths p (s .edges)) (flat (edgesOf (readOf (now (text .entry))))) ⌝ }
+    ensures { λ _. ⌜ now (part .exit) ≡ putFields (now (part .entry)) bit
+        (edgeWidths p (s .edges) ++ (fillBits p (s .states) (s .edges) ∷ [])) (flat (edgesOf (readOf (now (text .entry)))) ++ (0 ∷ [])) ⌝ }
 {
     let e = s.edges;
     let mut pen = pen::begin(part, bit);
@@ -69,5 +70,14 @@ fn put_all(p: Profile, part: &mut [u8], bit: usize, text: &[u8], s: Survey)
         at = line.end;
         i += 1;
     }
-    pen::finish(part, pen);
+    fill(part, pen, layout::fill_bits(p, s.states, e));
+}
+
+// Zero bits behind what the pen holds, and all of it stored.
+fn fill(part: &mut [u8], pen: Pen, width: usize)
+    requires { ⌜ Pushable pen width 0 ⌝ }
+    ensures { λ _. ⌜ now (part .exit) ≡ putField (inked (now (part .entry)) pen) (placeOf pen) width 0 ⌝ }
+{
+    let filled = pen::push(part, pen, width, 0);
+    pen::finish(part, filled);
 }

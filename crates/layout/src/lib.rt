@@ -83,11 +83,19 @@ pub fn states(p: Profile, file: &[u8]) -> usize
     bits::get(file, 0, p.states) as usize + 1
 }
 
+// How many bits there are from the last edge to the end of its byte.
+pub fn fill_bits(p: Profile, n: usize, e: usize) -> usize
+    requires { ⌜ Usable p × (n ≤ 256) × (e ≤ 65536) ⌝ }
+    ensures { λ r. ⌜ r ≡ fillBits p n e ⌝ }
+{
+    let bits = file_bits(p, n, e);
+    bytes_for(bits) * 8 - bits
+}
+
 // Zero bits to the end of the byte.
 pub fn fill(p: Profile, room: &mut [u8], n: usize, e: usize)
     requires { ⌜ Usable p × (n ≤ 256) × (e ≤ 65536) ⌝ }
     ensures { λ _. ⌜ now (room .exit) ≡ putField (now (room .entry)) (fileBits p n e) (fillBits p n e) 0 ⌝ }
 {
-    let bits = file_bits(p, n, e);
-    bits::put(room, bits, bytes_for(bits) * 8 - bits, 0);
+    bits::put(room, file_bits(p, n, e), fill_bits(p, n, e), 0);
 }

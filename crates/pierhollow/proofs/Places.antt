@@ -22,7 +22,7 @@ use Rattle.unpacking.specs.Promise as unpacking
 use Rattle.packing.specs.Promise.{packOf}
 use Rattle.reduction.specs.Reducing.{reduceTests, reduceOf}
 use Rattle.folding.specs.Folding as folding
-use Rattle.pierhollow.specs.Codes.{codeOf}
+use Rattle.telling.specs.Codes.{codeOf}
 
 pub unpack-small : (s : List ℕ) (room : unpacking.Rooms) → Small (unpackOf large s room)
 unfolding unpackOf

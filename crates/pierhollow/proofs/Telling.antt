@@ -3,7 +3,7 @@ use Prim.Native.Nat.{ℕ, _+_, _*_}
 use mathlib.Core.Path.{_≡_, sym, ap, _∙_}
 use mathlib.Core.List.{List}
 use Rattle.refusals.specs.Refusals.{Outcome, accepted, refused, Lent, Promise}
-use Rattle.pierhollow.specs.Codes.{toldPlace, codeOf, stored, valuesAfter, Told}
+use Rattle.telling.specs.Codes.{toldPlace, codeOf, stored, valuesAfter, Told}
 
 module _ {a due : Outcome} {rooms : List Lent} {left : List (List ℕ)} (kept : Promise a due rooms left) where
   pub told-accepted : (vs values : List ℕ) (r : ℕ) (values′ : List ℕ) → a ≡ accepted vs → r ≡ 0 → values′ ≡ stored 0 vs values → Told due rooms values r left values′

@@ -14,7 +14,7 @@ use Rattle.tracing.specs.Promise.{traceLent}
 use Rattle.reduction.specs.Reducing.{reduceOf}
 use Rattle.reduction.specs.Promise.{reduceLent}
 use Rattle.folding.specs.Folding as folding
-use Rattle.pierhollow.specs.Codes.{Told}
+use Rattle.telling.specs.Codes.{Told}
 
 -- Values: n, m, start and e.
 abbrev pub CheckToC : List ℕ → List ℕ → ℕ → List ℕ → Type 0

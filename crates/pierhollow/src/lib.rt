@@ -2,20 +2,12 @@
 // 2^56 - 1; include/pierhollow.h says which value stands where in the lent array.
 use checking::Checked;
 use dot::Made;
-use folding::Counts;
-use layout::Reading;
 use packing::Packed;
 use reduction::Reduced;
-use refusals::Refusal;
 use tracing::Traced;
 use unpacking::Unpacked;
-ghost use mathlib.Core.Path.{_≡_};
-ghost use mathlib.Core.List.{_∷_, []};
-ghost use Prim.Native.Nat.{_+_, _*_, _^_, _<_};
-ghost use Rattle.refusals.specs.Refusals.{numberOf};
 ghost use Rattle.unpacking.specs.Promise as unpacking;
 ghost use Rattle.folding.specs.Folding as folding;
-ghost use Rattle.pierhollow.specs.Codes.{toldPlace, stored};
 ghost use Rattle.pierhollow.specs.Promise.{CheckToC, UnpackToC, PackToC, TraceToC, ReduceToC};
 ghost use Rattle.pierhollow.specs.Promise.{FromDotToC, ToDotToC};
 
@@ -24,8 +16,8 @@ pub extern "C" fn pierhollow_check(file: &[u8], values: &mut [u64; 4]) -> u64
     ensures { λ r. ⌜ CheckToC (now (file .entry)) (now (values .entry)) r (now (values .exit)) ⌝ }
 {
     match checking::check(file) {
-        Checked::Accepted(reading) => tell_reading(reading, values),
-        Checked::Refused(why) => code(why),
+        Checked::Accepted(reading) => telling::tell_reading(reading, values),
+        Checked::Refused(why) => telling::code(why),
     }
 }
 
@@ -40,8 +32,8 @@ pub extern "C" fn pierhollow_unpack(
         (now (values .entry)) r (unpacking.rooms (now (colours .exit)) (now (edges .exit))) (now (values .exit)) ⌝ }
 {
     match unpacking::unpack(file, colours, edges) {
-        Unpacked::Accepted(reading) => tell_reading(reading, values),
-        Unpacked::Refused(why) => code(why),
+        Unpacked::Accepted(reading) => telling::tell_reading(reading, values),
+        Unpacked::Refused(why) => telling::code(why),
     }
 }
 
@@ -58,8 +50,8 @@ pub extern "C" fn pierhollow_pack(
         r (now (room .exit)) (now (values .exit)) ⌝ }
 {
     match packing::pack(colours, edges, m, start, room) {
-        Packed::Accepted(length) => tell_length(length, values),
-        Packed::Refused(why) => code(why),
+        Packed::Accepted(length) => telling::tell_length(length, values),
+        Packed::Refused(why) => telling::code(why),
     }
 }
 
@@ -74,9 +66,9 @@ pub extern "C" fn pierhollow_trace(
         r (now (colours .exit)) (now (values .exit)) ⌝ }
 {
     match tracing::trace(file, observations, colours) {
-        Traced::All => tell_ride(0, 0, values),
-        Traced::Stopped(i) => tell_ride(1, i, values),
-        Traced::Refused(why) => code(why),
+        Traced::All => telling::tell_ride(0, 0, values),
+        Traced::Stopped(i) => telling::tell_ride(1, i, values),
+        Traced::Refused(why) => telling::code(why),
     }
 }
 
@@ -91,8 +83,8 @@ pub extern "C" fn pierhollow_reduce(
         (now (values .entry)) r (folding.rooms (now (answer .exit)) (now (classes .exit))) (now (values .exit)) ⌝ }
 {
     match reduction::reduce(file, answer, classes) {
-        Reduced::Accepted(counts) => tell_counts(counts, values),
-        Reduced::Refused(why) => code(why),
+        Reduced::Accepted(counts) => telling::tell_counts(counts, values),
+        Reduced::Refused(why) => telling::code(why),
     }
 }
 
@@ -102,8 +94,8 @@ pub extern "C" fn pierhollow_from_dot(text: &[u8], room: &mut [u8], values: &mut
         (now (values .exit)) ⌝ }
 {
     match dot::from_dot(text, room) {
-        Made::Accepted(length) => tell_length(length, values),
-        Made::Refused(why) => code(why),
+        Made::Accepted(length) => telling::tell_length(length, values),
+        Made::Refused(why) => telling::code(why),
     }
 }
 
@@ -113,61 +105,7 @@ pub extern "C" fn pierhollow_to_dot(file: &[u8], room: &mut [u8], values: &mut [
         (now (values .exit)) ⌝ }
 {
     match dot::to_dot(file, room) {
-        Made::Accepted(length) => tell_length(length, values),
-        Made::Refused(why) => code(why),
+        Made::Accepted(length) => telling::tell_length(length, values),
+        Made::Refused(why) => telling::code(why),
     }
-}
-
-fn code(why: Refusal) -> u64
-    ensures { λ r. ⌜ r ≡ toldPlace (why .place) * 256 + numberOf (why .kind) ⌝ }
-{
-    let kind = why.kind;
-    told_place(why.place as u64) * 256 + arrays::wide_byte(refusals::number(kind)) as u64
-}
-
-// A place that leaves room for the number.
-fn told_place(place: u64) -> u64
-    ensures { λ r. ⌜ (r ≡ toldPlace place) × (r < 2 ^ 56) ⌝ }
-{
-    if place < 72057594037927936 {
-        return place;
-    }
-    72057594037927935
-}
-
-fn tell_reading(reading: Reading, values: &mut [u64; 4]) -> u64
-    ensures { λ r. ⌜ (r ≡ 0) × (now (values .exit)
-        ≡ stored 0 (reading .states ∷ reading .labels ∷ reading .start ∷ reading .edges ∷ []) (now (values .entry))) ⌝ }
-{
-    values[0] = reading.states as u64;
-    values[1] = reading.labels as u64;
-    values[2] = reading.start as u64;
-    values[3] = reading.edges as u64;
-    0
-}
-
-fn tell_length(length: usize, values: &mut [u64; 1]) -> u64
-    ensures { λ r. ⌜ (r ≡ 0) × (now (values .exit) ≡ stored 0 (length ∷ []) (now (values .entry))) ⌝ }
-{
-    values[0] = length as u64;
-    0
-}
-
-fn tell_ride(stopped: u64, i: usize, values: &mut [u64; 2]) -> u64
-    ensures { λ r. ⌜ (r ≡ 0) × (now (values .exit) ≡ stored 0 (stopped ∷ i ∷ []) (now (values .entry))) ⌝ }
-{
-    values[0] = stopped;
-    values[1] = i as u64;
-    0
-}
-
-fn tell_counts(counts: Counts, values: &mut [u64; 4]) -> u64
-    ensures { λ r. ⌜ (r ≡ 0) × (now (values .exit)
-        ≡ stored 0 (counts .states ∷ counts .colours ∷ counts .rounds ∷ counts .length ∷ []) (now (values .entry))) ⌝ }
-{
-    values[0] = counts.states as u64;
-    values[1] = counts.colours as u64;
-    values[2] = counts.rounds as u64;
-    values[3] = counts.length as u64;
-    0
 }

@@ -146,5 +146,5 @@ module _ (P : Profile) (file : List ℕ) where
       _≡_ {A = Extent} (record { length = long; labels = labels }) (extentOf P file)
   extent-is h l = rw (h, l)
 
-  pub few : {n e : ℕ} → Plottable P file n e → (n ≤ 256) × (e ≤ 65536)
+  pub few : {colours : List ℕ} {n e : ℕ} → Plottable P file colours n e → (n ≤ 256) × (e ≤ 65536)
   few ok = (omega (arith, ok .states, states-high P (ok .usable) file), omega (arith, ok .edges, count-high P (ok .usable) file))

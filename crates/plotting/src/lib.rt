@@ -15,15 +15,14 @@ pub struct Extent {
     pub labels: usize,
 }
 
-// The extent of the drawing of a file with n states and e edges.
-pub fn extent_of(p: Profile, file: &[u8], n: usize, e: usize) -> Extent
-    requires { ⌜ Plottable p (now file) n e ⌝ }
+// The extent of the drawing of a file with n states of these colours and e edges.
+pub fn extent_of(p: Profile, file: &[u8], colours: &[u8; 256], n: usize, e: usize) -> Extent
+    requires { ⌜ Plottable p (now file) (now colours) n e ⌝ }
     ensures { λ r. ⌜ r ≡ extentOf p (now (file .entry)) ⌝ }
 {
-    let colours = loading::colours_of(p, file, n);
     let edges = edges_extent(p, file, layout::edges_begin(p, n), e);
     Extent {
-        length: 10 + states_length(&colours, n) + edges.length + 2,
+        length: 10 + states_length(colours, n) + edges.length + 2,
         labels: edges.labels,
     }
 }
@@ -62,14 +61,13 @@ fn edges_extent(p: Profile, file: &[u8], begin: usize, e: usize) -> Extent
     Extent { length, labels }
 }
 
-// Puts the drawing of a file with n states and e edges at the beginning of a room that holds it.
-pub fn put(p: Profile, file: &[u8], n: usize, e: usize, room: &mut [u8])
-    requires { ⌜ Plottable p (now file) n e × (length (textOf p (now file)) ≤ length (now room)) ⌝ }
+// Puts the drawing of a file with n states of these colours and e edges at the beginning of a room that holds it.
+pub fn put(p: Profile, file: &[u8], colours: &[u8; 256], n: usize, e: usize, room: &mut [u8])
+    requires { ⌜ Plottable p (now file) (now colours) n e × (length (textOf p (now file)) ≤ length (now room)) ⌝ }
     ensures { λ _. ⌜ now (room .exit) ≡ wrote (now (room .entry)) 0 (textOf p (now (file .entry))) ⌝ }
 {
-    let colours = loading::colours_of(p, file, n);
     let states = text::put(room, 0, b"digraph {\n");
-    let edges = put_states(room, states, &colours, n);
+    let edges = put_states(room, states, colours, n);
     let closing = put_edges(p, room, edges, file, layout::edges_begin(p, n), e);
     text::put(room, closing, b"}\n");
 }

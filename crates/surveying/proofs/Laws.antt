@@ -1,8 +1,8 @@
 -- Surveys and readings one statement at a time.
 -- Assumes nothing.
 use Prim.Native.Nat.{ℕ, suc, _+_, _<_}
-use mathlib.Core.Path.{_≡_, refl, sym, ap, ap₂, _∙_}
-use mathlib.Core.List.{List, [], _∷_, _++_, append-nil}
+use mathlib.Core.Path.{_≡_, refl, sym, ap, _∙_}
+use mathlib.Core.List.{List, [], _∷_, _++_}
 use native.Mathlib.Nat.{zero-add}
 use native.Mathlib.Numerals.{add-one}
 use native.Mathlib.Omega.{arith}
@@ -76,7 +76,3 @@ pub joined-edge : (cs : List ℕ) (es : List Edge) (e : Edge) (r : Read) → joi
 unfolding joined
 joined-edge cs es e (drawing colours edges) = ap (λ (l : List Edge). drawing (cs ++ colours) l) (sym (append-snoc es e edges))
 joined-edge cs es e (outside p) = refl
-
-pub joined-end : (cs : List ℕ) (es : List Edge) → joined cs es (drawing [] []) ≡ drawing cs es
-unfolding joined
-joined-end cs es = ap₂ drawing (append-nil cs) (append-nil es)

@@ -1,7 +1,7 @@
--- The survey of a text's first statements, and one statement more.
+-- The survey of a text's first statements with the test of their edges, and one statement more.
 -- Assumes nothing.
 use Prim.Native.Nat.{ℕ, suc, _+_, _-_, _≤_, _<_, _^_}
-use mathlib.Core.Path.{_≡_, refl, sym, ap, _∙_}
+use mathlib.Core.Path.{_≡_, refl, sym, ap, ap₂, _∙_}
 use mathlib.Core.List.{List, [], _∷_, _++_, append-nil}
 use native.Mathlib.Numerals.{add-one}
 use native.Mathlib.Omega.{arith}
@@ -20,11 +20,14 @@ use Rattle.drawing.specs.Words.{stands-inside, matched-inside}
 use Rattle.drawing.specs.Lines.{short-parts, statement-state, statement-edge, state-longer, edge-longer}
 use Rattle.surveying.specs.declared.Survey.{Survey}
 use Rattle.surveying.specs.declared.Surveyed.the-variants as answer
-use Rattle.surveying.specs.Surveys.{bound, surveyOf, nextOf, surveyed, Countable}
+use Rattle.surveying.specs.declared.Testing.{Testing}
+use Rattle.surveying.specs.Surveys.{bound, surveyOf, nextOf, faultAmong, inside, leaves, foundOf, surveyed, Countable, Judged, JudgedOn}
+use Rattle.surveying.proofs.Faults.{judged-none}
 use Rattle.surveying.proofs.Laws.{begin-more, survey-state, survey-edge, no-edges, joined, joined-none, joined-state, joined-edge}
 
--- The text is read up to a place, and `s` is the survey of what was read; `left` and one more statements can follow.
-pub record SoFar (text : List ℕ) (at : ℕ) (s : Survey) : Type 0 where
+-- The text is read up to a place, `s` is the survey of what was read, and its edges are tested; `left` and one more statements can
+-- follow.
+pub record SoFar (text : List ℕ) (at : ℕ) (s : Survey) (t : Testing) : Type 0 where
   pub colours : List ℕ
   pub edges : List meaning.Edge
   pub left : ℕ
@@ -33,6 +36,7 @@ pub record SoFar (text : List ℕ) (at : ℕ) (s : Survey) : Type 0 where
   pub few : length colours + length edges ≤ at
   pub here : edges ≡ [] → at ≡ 10 + length (stateLines 0 colours)
   pub survey : s ≡ surveyOf colours edges
+  pub judged : Judged (s .states) edges t
   pub read : readOf text ≡ joined colours edges (statementsFrom (suc left) text at (s .next))
 
 abbrev pub withState : Survey → ℕ → ℕ → Survey
@@ -55,7 +59,7 @@ withEdge s l = record {
   next = 1000;
 }
 
-module _ (text : List ℕ) (at : ℕ) (s : Survey) (f : SoFar text at s) where
+module _ (text : List ℕ) (at : ℕ) (s : Survey) (t : Testing) (f : SoFar text at s t) where
   -- what was read, and then what follows the next statement
   pub read-on : readOf text ≡ joined (f .colours) (f .edges) (behind text (s .next) (statementsFrom (f .left) text) (statementAt text at (s .next)))
   unfolding statementsFrom
@@ -77,7 +81,7 @@ module _ (text : List ℕ) (at : ℕ) (s : Survey) (f : SoFar text at s) where
   fewer : {end : ℕ} → at < end → end ≤ length text → (f .left ≡ suc (f .left - 1)) × (length text ≤ end + (f .left - 1))
   fewer h l = (omega (arith, f .enough), omega (arith, f .enough))
 
-  pub step-state : (c end : ℕ) → statementAt text at (s .next) ≡ statement.State c end → SoFar text end (withState s c end)
+  pub step-state : (c end : ℕ) → statementAt text at (s .next) ≡ statement.State c end → SoFar text end (withState s c end) t
   step-state c end e =
       let st = statement-state text at (s .next) c end (f .inside) e in
       let longer = state-longer (s .next) c (st .2) in
@@ -97,11 +101,13 @@ module _ (text : List ℕ) (at : ℕ) (s : Survey) (f : SoFar text at s) where
         few = omega (arith, f .few, length-append (f .colours) (c ∷ []));
         here = λ z. ends ∙ sym (begin-more (f .colours) c);
         survey = rw (f .survey, none) (survey-state (f .colours) c end ends);
+        judged = judged-none (s .states) (s .states + 1) t (rw none at (f .judged));
         read = read-on ∙ rw (e, none, add-one (s .next), ← less .0) (joined-state (f .colours) [] c (statementsFrom (f .left) text end (suc (s .next))));
       }
 
-  pub step-edge : (g : Edge) (end : ℕ) → statementAt text at (s .next) ≡ statement.Edge g end → SoFar text end (withEdge s (g .label))
-  step-edge g end e =
+  pub step-edge : (g : Edge) (end : ℕ) (t′ : Testing) → statementAt text at (s .next) ≡ statement.Edge g end → JudgedOn (s .states) (s .edges) g t t′ →
+      SoFar text end (withEdge s (g .label)) t′
+  step-edge g end t′ e on =
       let st = statement-edge text at (s .next) g end (f .inside) e in
       let longer = edge-longer (edgeOf g) (st .1) in
       let inside = stands-inside (st .1) (f .inside) in
@@ -115,6 +121,7 @@ module _ (text : List ℕ) (at : ℕ) (s : Survey) (f : SoFar text at s) where
         few = omega (arith, f .few, length-append (f .edges) (edgeOf g ∷ []));
         here = λ z. absurd (omega (arith, ap length z, length-append (f .edges) (edgeOf g ∷ [])));
         survey = rw (f .survey) (survey-edge (f .colours) (f .edges) (edgeOf g));
+        judged = on (f .edges) (sym (ap (λ (x : Survey). x .edges) (f .survey))) (f .judged);
         read = read-on ∙ rw (e, ← less .0) (joined-edge (f .colours) (f .edges) (edgeOf g) (statementsFrom (f .left) text end noState));
       }
 
@@ -129,24 +136,26 @@ module _ (text : List ℕ) (at : ℕ) (s : Survey) (f : SoFar text at s) where
       let st = statement-edge text at (s .next) g end (f .inside) e in
       (edge-longer (edgeOf g) (st .1), stands-inside (st .1) (f .inside), short-parts (edgeOf g) (st .0) .1)
 
-  -- what the survey is at the end
+  -- what is found at the end
   pub closed-is : (end : ℕ) → statementAt text at (s .next) ≡ statement.Closing end →
-      surveyed (readOf text) ≡ pick (eqb end (length text)) (answer.Inside s) (answer.Outside end)
+      foundOf (pick (eqb end (length text)) (answer.Inside s (t .verdict)) (answer.Outside end)) ≡ surveyed (readOf text)
   unfolding joined
   closed-is end e = cases-of (eqb end (length text))
-      (λ q. rw (read-on, e, q) (rw (append-nil (f .colours), append-nil (f .edges)) (ap answer.Inside (sym (f .survey)))))
+      (λ q. rw (read-on, e, q)
+      (rw (append-nil (f .colours), append-nil (f .edges))
+      (ap₂ inside (f .survey) (f .judged .fault ∙ ap (λ (x : Survey). faultAmong (x .states) (f .edges)) (f .survey)))))
       (λ q. rw (read-on, e, q))
 
-  pub outside-is : (place : ℕ) → statementAt text at (s .next) ≡ statement.Outside place → surveyed (readOf text) ≡ answer.Outside place
+  pub outside-is : (place : ℕ) → statementAt text at (s .next) ≡ statement.Outside place → surveyed (readOf text) ≡ leaves place
   unfolding joined
   outside-is place e = rw (read-on, e)
 
 abbrev pub begun : Survey
 begun = record { states = 0; colours = 0; begin = 10; edges = 0; labels = 1; next = 0 }
 
-pub first-of-all : (text : List ℕ) → 10 ≤ matched text 0 opening → SoFar text 10 begun
+pub first-of-all : (text : List ℕ) (t : Testing) → 10 ≤ matched text 0 opening → Judged 0 [] t → SoFar text 10 begun t
 unfolding readOf bound labelsOf stateLines
-first-of-all text h =
+first-of-all text t h j =
     let inside = matched-inside text 0 opening (omega arith) in
     let count : suc (length text - 1) ≡ length text = omega (arith, inside) in
     record {
@@ -158,5 +167,6 @@ first-of-all text h =
       few = omega arith;
       here = λ z. refl;
       survey = refl;
+      judged = j;
       read = rw (le-ltb (matched text 0 opening) 10 h, count, joined-none (statementsFrom (length text) text 10 0));
     }

@@ -1,13 +1,20 @@
 // What has to be known of a text before a file is written from it: a text read once from its beginning to its end.
 use drawing::Statement;
+use edges::Verdict;
+use layout::edge::Edge;
+use refusals::Kind;
+use refusals::Refusal;
 ghost use mathlib.Core.Path.{_≡_};
+ghost use mathlib.Core.List.{[]};
+ghost use mathlib.Core.Option.{some};
 ghost use Prim.Native.Nat.{_+_, _≤_};
 ghost use lib.Dec.{eqb};
 ghost use lib.ListN.{length};
 ghost use Rattle.meaning.specs.Pick.{pick};
+ghost use Rattle.edges.specs.Walk.{faultOf};
 ghost use Rattle.drawing.specs.Profile.{larger, opening};
 ghost use Rattle.drawing.specs.Reader.{matched, readOf};
-ghost use Rattle.surveying.specs.Surveys.{surveyed, Countable};
+ghost use Rattle.surveying.specs.Surveys.{foundOf, surveyed, bytes, Countable, Judged, JudgedOn};
 
 // How many states and edges there are, the largest colour plus one, where the edges begin, m, and the number that the next state
 // would have.
@@ -20,8 +27,9 @@ pub struct Survey {
     pub next: usize,
 }
 
+// The survey of a text of the profile and the first fault of its edges; or where the text leaves the profile.
 pub enum Surveyed {
-    Inside(Survey),
+    Inside(Survey, Verdict),
     Outside(usize),
 }
 
@@ -85,23 +93,83 @@ impl Survey {
     }
 }
 
-pub fn survey_of(text: &[u8]) -> Surveyed
-    ensures { λ r. ⌜ r ≡ surveyed (readOf (now (text .entry))) ⌝ }
+// The first fault of the edges so far; without one, the rank of the last of them.
+struct Testing {
+    verdict: Verdict,
+    last: usize,
+}
+
+impl Testing {
+    // Before the first edge.
+    fn begin() -> Testing
+        ensures { λ r. ⌜ Judged 0 [] r ⌝ }
+    {
+        Testing {
+            verdict: Verdict::Faultless,
+            last: 0,
+        }
+    }
+
+    // Edge i more, of a text with n states. Behind a faulty edge none is tested. An edge with a number above 255 is in no file.
+    fn with_edge(self, n: usize, i: usize, edge: Edge) -> Testing
+        ensures { λ r. ⌜ JudgedOn n i edge self r ⌝ }
+    {
+        let verdict = self.verdict;
+        let Verdict::Faultless = verdict else {
+            return self;
+        };
+        if !bytes(edge) {
+            return Testing {
+                verdict: outside(i),
+                last: 0,
+            };
+        }
+        Testing {
+            verdict: edges::test(n, 256, i, self.last, edge),
+            last: edges::rank(edge),
+        }
+    }
+}
+
+// Whether all three numbers of an edge are bytes.
+fn bytes(edge: Edge) -> bool
+    ensures { λ r. ⌜ r ≡ bytes edge ⌝ }
 {
-    let word = drawing::matched(text, 0, b"digraph {\n");
-    if word < 10 {
-        return Surveyed::Outside(word);
+    if 256 <= edge.source {
+        return false;
+    }
+    if 256 <= edge.label {
+        return false;
+    }
+    edge.target < 256
+}
+
+fn outside(i: usize) -> Verdict
+    ensures { λ r. ⌜ faultOf r ≡ some (record { number = 7; index = i }) ⌝ }
+{
+    Verdict::Faulty(Refusal {
+        kind: Kind::Outside,
+        place: i,
+    })
+}
+
+pub fn survey_of(text: &[u8]) -> Surveyed
+    ensures { λ r. ⌜ foundOf r ≡ surveyed (readOf (now (text .entry))) ⌝ }
+{
+    if !drawing::stands(text, 0, b"digraph {\n") {
+        return Surveyed::Outside(drawing::matched(text, 0, b"digraph {\n"));
     }
     statements(text)
 }
 
-// The statements behind the opening line.
+// The statements behind the opening line. All states come before the first edge, so that an edge is tested as soon as it is read.
 fn statements(text: &[u8]) -> Surveyed
     requires { ⌜ 10 ≤ matched (now text) 0 opening ⌝ }
-    ensures { λ r. ⌜ r ≡ surveyed (readOf (now (text .entry))) ⌝ }
+    ensures { λ r. ⌜ foundOf r ≡ surveyed (readOf (now (text .entry))) ⌝ }
 {
     let mut at = 10;
     let mut s = Survey::begin();
+    let mut testing = Testing::begin();
     loop {
         let statement = drawing::statement_at(text, at, s.next);
         match statement {
@@ -110,21 +178,23 @@ fn statements(text: &[u8]) -> Surveyed
                 at = end;
             }
             Statement::Edge(edge, end) => {
+                testing = testing.with_edge(s.states, s.edges, edge);
                 s = s.with_edge(edge.label);
                 at = end;
             }
-            Statement::Closing(end) => return closed(text.len(), end, s),
+            Statement::Closing(end) => return closed(text.len(), end, s, testing),
             Statement::Outside(place) => return Surveyed::Outside(place),
         }
     }
 }
 
 // Nothing may follow the closing brace's line.
-fn closed(length: usize, end: usize, s: Survey) -> Surveyed
-    ensures { λ r. ⌜ r ≡ pick (eqb end length) (Surveyed.Inside s) (Surveyed.Outside end) ⌝ }
+fn closed(length: usize, end: usize, s: Survey, testing: Testing) -> Surveyed
+    ensures { λ r. ⌜ r ≡ pick (eqb end length) (Surveyed.Inside s (testing .verdict)) (Surveyed.Outside end) ⌝ }
 {
+    let verdict = testing.verdict;
     if end == length {
-        return Surveyed::Inside(s);
+        return Surveyed::Inside(s, verdict);
     }
     Surveyed::Outside(end)
 }

@@ -23,8 +23,8 @@ write-requires c κs =
     let start = test .before .before .before in
     let a = start .args in
     let h = sym (test .test .ensures) ∙ ap madeOutcome (known .answer .given .1) in
-    let ok = passed (a .p) (now (a .text)) (a .s) (start .pre .1) (length (now (a .room))) _ h in
-    record { usable = start .pre .0; known = start .pre .1; writable = ok .writable; roomy = ok .roomy }
+    let ok = passed (a .p) (now (a .text)) (a .s) (start .pre .known) (length (now (a .room))) _ h in
+    record { usable = start .pre .usable; known = start .pre .known; writable = ok .writable; roomy = ok .roomy }
 
 returns-2 : tie.Need-returns-2
 returns-2 c =
@@ -33,7 +33,7 @@ returns-2 c =
     let test = known .before .before in
     let start = test .before .before .before in
     let a = start .args in
-    rw (write .write .ensures, ← file-is (a .p) (now (a .text)) (a .s) (start .pre .1))
+    rw (write .write .ensures, ← file-is (a .p) (now (a .text)) (a .s) (start .pre .known))
     (file-laid (a .p) (now (a .text)) (now (a .room)) (test .test .result) (known .answer .given .0 .0) (test .test .ensures) (known .answer .given .1))
 
 pub file-spec : {M : Type 1} → statement M

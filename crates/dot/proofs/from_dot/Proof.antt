@@ -1,11 +1,12 @@
 -- `dot::from_dot` meets its contract. Assumes nothing.
-use mathlib.Core.Path.{_≡_, refl, sym, _∙_}
+use mathlib.Core.Path.{_≡_, refl, sym, ap, _∙_}
 use borrow.Author.Needs.{needs}
 use denote.Ref.{now}
 use Rattle.refusals.specs.declared.Kind.the-variants.{Drawing}
 use Rattle.layout.specs.Layout.{large}
 use Rattle.layout.proofs.Bounds.{large-usable}
-use Rattle.dot.proofs.Texts.{known-of, outside-of}
+use Rattle.surveying.specs.Surveys.{foundOf}
+use Rattle.dot.proofs.Texts.{testable-of, outside-of}
 use Rattle.dot.proofs.Calls.{outside-refused}
 use Rattle.dot.proofs.from_dot.Statement.{statement}
 use Rattle.dot.proofs.from_dot.Tie as tie
@@ -13,7 +14,7 @@ use Rattle.dot.proofs.from_dot.Tie as tie
 file-requires : tie.Need-file-requires
 file-requires c κs =
     let known = c .before .before .before in
-    (rw (c .before .large .ensures) large-usable, known-of _ _ (sym (known .surveyed .given .1) ∙ known .before .before .survey-of .ensures))
+    testable-of _ (rw (c .before .large .ensures) large-usable) _ _ _ (sym (ap foundOf (known .surveyed .given .1)) ∙ known .before .before .survey-of .ensures)
 
 returns : tie.Need-returns
 returns c = rw (c .before .before .before .before .large .ensures) at (c .before .before .file .ensures)
@@ -23,7 +24,7 @@ returns-2 c =
     let known = c .before in
     let a = known .before .before .before .before .before .args in
     outside-refused large (now (a .text)) (now (a .room)) (known .surveyed2 .given .0 .0) (record { kind = Drawing; place = known .surveyed2 .given .0 .0 }) refl
-    (outside-of _ _ (sym (known .surveyed2 .given .1) ∙ known .before .before .survey-of .ensures))
+    (outside-of _ _ (sym (ap foundOf (known .surveyed2 .given .1)) ∙ known .before .before .survey-of .ensures))
 
 pub from-dot-spec : {M : Type 1} → statement M
 from-dot-spec =

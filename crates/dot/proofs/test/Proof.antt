@@ -2,6 +2,7 @@
 use mathlib.Core.Path.{_≡_, ap, sym, _∙_}
 use mathlib.Core.Bool.{true}
 use mathlib.Core.List.{[], _∷_}
+use mathlib.Core.Option.{none}
 use Prim.Native.Nat.{ℕ, _*_, _≤_}
 use native.Mathlib.Nat.{mul-le-mul, le-trans}
 use native.Mathlib.Omega.{arith}
@@ -11,12 +12,13 @@ use denote.Ref.{now}
 use Rattle.layout.specs.Layout.{bytesFor, fileLength}
 use Rattle.layout.proofs.Bounds.{states-pow, labels-pow}
 use Rattle.refusals.specs.Refusals.{accepted, firstOf, roomTest}
+use Rattle.edges.specs.Faults.{firstFault}
 use Rattle.edges.specs.Walk.{faultOf}
 use Rattle.files.specs.Files.{holdable}
 use Rattle.files.specs.Tests.{Held, held}
-use Rattle.drawing.specs.Reader.{coloursOf, readOf}
+use Rattle.drawing.specs.Reader.{coloursOf, edgesOf, readOf}
 use Rattle.dot.specs.Promise.{madeOutcome}
-use Rattle.dot.proofs.Texts.{states-are}
+use Rattle.dot.proofs.Texts.{states-are, fault-is}
 use Rattle.dot.proofs.Calls.{not-held, too-many, onto-edges}
 use Rattle.dot.proofs.test.Statement.{statement}
 use Rattle.dot.proofs.test.Tie as tie
@@ -35,10 +37,10 @@ is-held c = held _ _ _ (holds c)
 states≤256 : (c : tie.Else1) → start c .args .s .states ≤ 256
 states≤256 c =
     let a = start c in
-    omega (arith, states-are _ _ (a .pre .1), is-held c .states-high, states-pow (a .args .p) (a .pre .0))
+    omega (arith, states-are _ _ (a .pre .known), is-held c .states-high, states-pow (a .args .p) (a .pre .usable))
 
 labels≤256 : (c : tie.Else1) → start c .args .s .labels ≤ 256
-labels≤256 c = le-trans (is-held c .labels-high) (labels-pow (start c .args .p) (start c .pre .0))
+labels≤256 c = le-trans (is-held c .labels-high) (labels-pow (start c .args .p) (start c .pre .usable))
 
 product≤65536 : (c : tie.Else1) → start c .args .s .states * start c .args .s .labels ≤ 65536
 product≤65536 c = mul-le-mul (states≤256 c) (labels≤256 c)
@@ -50,45 +52,46 @@ returns c =
     let test = c .before .before in
     let a = test .before .before in
     let no = sym (test .holdable .ensures) ∙ not-true (test .holdable .result) (c .before .if1 .taken) in
-    ap madeOutcome (c .not-made .ensures) ∙ sym (not-held _ _ _ (a .pre .1) _ no)
+    ap madeOutcome (c .not-made .ensures) ∙ sym (not-held _ _ _ (a .pre .known) _ no)
 
 returns-2 : tie.Need-returns-2
 returns-2 c =
     let else1 = c .before .before .before in
-    ap madeOutcome (c .not-made2 .ensures) ∙ sym (too-many _ _ _ (start else1 .pre .1) _ (holds else1) (c .before .if2 .taken))
+    ap madeOutcome (c .not-made2 .ensures) ∙ sym (too-many _ _ _ (start else1 .pre .known) _ (holds else1) (c .before .if2 .taken))
 
-test-edges-requires : tie.Need-test-edges-requires
-test-edges-requires c κs =
+-- the verdict on a filter that a file can hold
+fault : (c : tie.Else2) → let a = start (c .before .before) .args in
+    faultOf (a .verdict) ≡ firstFault (a .s .states) (a .s .labels) none 0 (edgesOf (readOf (now (a .text))))
+fault c =
     let else1 = c .before .before in
-    record { known = start else1 .pre .1; states = states≤256 else1; labels = labels≤256 else1 }
+    let pre = start else1 .pre in
+    pre .fault ∙ fault-is _ _ (pre .known) (states≤256 else1) (labels≤256 else1)
 
 file-bits-requires : tie.Need-file-bits-requires
 file-bits-requires c κs =
-    let else2 = c .before .before .before in
+    let else2 = c .before .before in
     let else1 = else2 .before .before in
-    (start else1 .pre .0, states≤256 else1, le-trans (else2 .if2 .left) (product≤65536 else1))
+    (start else1 .pre .usable, states≤256 else1, le-trans (else2 .if2 .left) (product≤65536 else1))
 
 returns-3 : tie.Need-returns-3
 unfolding fileLength
 returns-3 c =
     let bytes = c .before in
     let told = bytes .before .before in
-    let edges = told .before .before in
-    let else2 = edges .before in
+    let else2 = told .before .before in
     let else1 = else2 .before .before in
-    let clear = sym (edges .test-edges .ensures) ∙ ap faultOf (told .enum-told .given .1) in
+    let clear = sym (fault else2) ∙ ap faultOf (told .enum-told .given .1) in
     let length = bytes .bytes-for .ensures ∙ ap bytesFor (bytes .before .file-bits .ensures .0) in
     c .test-room .ensures
     ∙ ap (λ (n : ℕ). firstOf (roomTest n (start else1 .args .room)) (accepted (n ∷ []))) length
-    ∙ sym (onto-edges _ _ _ (start else1 .pre .1) _ (holds else1) (else2 .if2 .left) ∙ rw clear)
+    ∙ sym (onto-edges _ _ _ (start else1 .pre .known) _ (holds else1) (else2 .if2 .left) ∙ rw clear)
 
 returns-4 : tie.Need-returns-4
 returns-4 c =
-    let edges = c .before .before .before in
-    let else2 = edges .before in
+    let else2 = c .before .before .before in
     let else1 = else2 .before .before in
-    let fault = sym (edges .test-edges .ensures) ∙ ap faultOf (c .before .verdict .given .1) in
-    sym (onto-edges _ _ _ (start else1 .pre .1) _ (holds else1) (else2 .if2 .left) ∙ rw fault)
+    let faulty = sym (fault else2) ∙ ap faultOf (c .before .verdict .given .1) in
+    sym (onto-edges _ _ _ (start else1 .pre .known) _ (holds else1) (else2 .if2 .left) ∙ rw faulty)
 
 pub test-spec : {M : Type 1} → statement M
 test-spec =
@@ -100,7 +103,6 @@ test-spec =
     (λ c. omega (arith, product≤65536 (c .before)))
     (λ c κs. search needs)
     returns-2
-    test-edges-requires
     (λ c. search needs)
     (λ c. search needs)
     file-bits-requires

@@ -1,6 +1,6 @@
 -- `inking::put_all` meets its contract. The invariant: the edges so far are drawn, one behind another, and the next edge's statement begins
 -- at the place. Assumes nothing.
-use mathlib.Core.Path.{_≡_, ap, subst, _∙_}
+use mathlib.Core.Path.{_≡_, ap, sym, subst, _∙_}
 use mathlib.Core.List.{[], _∷_}
 use Prim.Native.Nat.{_+_, _-_, _≤_, _<_}
 use native.Mathlib.Nat.{le-antisymm}
@@ -9,26 +9,28 @@ use borrow.Author.Needs.{needs}
 use denote.Ref.{now}
 use lib.ListN.{length, getD, take}
 use lib.Seq.{take-length}
-use Rattle.pen.specs.Runs.{inked, placeOf, Drawn}
+use lib.Pow.{pow-pos}
+use Rattle.pen.specs.Runs.{putFields, inked, placeOf, Drawn}
+use Rattle.pen.proofs.Runs.{fit-length, puts-append}
 use Rattle.pen.proofs.Pens.{drawn-behind, drawn-length}
 use Rattle.meaning.specs.Filter.{Edge}
 use Rattle.layout.specs.Layout.{edgeWidths, flat}
 use Rattle.layout.specs.Code.{edgeOf}
-use Rattle.layout.proofs.Bounds.{edges-high}
+use Rattle.layout.proofs.Bounds.{edges-high, fill-lt}
 use Rattle.layout.proofs.EdgeLists.{total-edges, widths-append}
 use Rattle.files.specs.Written.{edges-fit}
 use Rattle.drawing.specs.Reader.{edgesOf, readOf}
 use Rattle.inking.specs.Inking.{filterRead}
-use Rattle.inking.proofs.Laws.{nowhere, flat-more, edge-fit, AtEdge, edges-are, edges-few, first-edge, next-edge}
+use Rattle.inking.proofs.Laws.{nowhere, flat-more, edge-fit, AtEdge, states-few, edges-are, edges-few, first-edge, next-edge}
 use Rattle.inking.proofs.put_all.Statement.{statement}
 use Rattle.inking.proofs.put_all.Tie as tie
 
 abbrev Inv-loop : tie.InvT-loop
-Inv-loop p part₀ bit text e pen₀ at₀ i₀ part pen at i =
+Inv-loop p part₀ bit text s e pen₀ at₀ i₀ part pen at i =
     (i ≤ e) × Drawn part₀ bit (edgeWidths p i) (flat (take i (edgesOf (readOf text)))) part pen × AtEdge text i at
 
 abbrev μ-loop : tie.MeasureT-loop
-μ-loop p part₀ bit text e pen₀ at₀ i₀ part pen at i = e - i
+μ-loop p part₀ bit text s e pen₀ at₀ i₀ part pen at i = e - i
 
 few : (c : tie.Start Inv-loop μ-loop) → c .args .s .edges ≤ 65536
 few c = edges-few (now (c .args .text)) (c .args .s) (c .pre .known) (c .args .p) (c .pre .usable) (c .pre .writable)
@@ -101,22 +103,52 @@ loop-again c =
       next .1,
     )
 
-finish-requires : tie.Need-finish-requires Inv-loop μ-loop
-finish-requires c κs = c .before .before .loop .inv .1 .ready
+fill-bits-requires : tie.Need-fill-bits-requires Inv-loop μ-loop
+fill-bits-requires c κs =
+    let start = c .before .before .before .before .before .before .before in
+    let pre = start .pre in
+    (pre .usable, states-few (now (start .args .text)) (start .args .s) (pre .known) (start .args .p) (pre .usable) (pre .writable), few start)
 
-same-length : tie.Need-same-length Inv-loop μ-loop
-same-length c = c .before .before .finish .kept .0 ∙ drawn-length (c .before .before .before .before .before .loop .inv .1)
-
-returns : tie.Need-returns Inv-loop μ-loop
-returns c =
-    let done = c .before .before in
-    let left = done .before .before in
+fill-requires : tie.Need-fill-requires Inv-loop μ-loop
+fill-requires c κs =
+    let left = c .before .before in
     let loop = left .before .loop in
     let start = left .before .before .before .before .before .before in
+    let p = start .args .p in
+    record {
+      ready = loop .inv .1 .ready;
+      narrow = omega (arith, c .fill-bits .ensures, fill-lt p (start .args .s .states) (start .args .s .edges));
+      small = pow-pos (c .fill-bits .result);
+      near = omega (
+        arith,
+        loop .inv .1 .place,
+        total-edges p (loop .i),
+        start .pre .begin,
+        edges-high p (start .pre .usable) (loop .i) (omega (arith, few start, loop .inv .0)),
+        c .fill-bits .ensures,
+        fill-lt p (start .args .s .states) (start .args .s .edges),
+      );
+    }
+
+same-length : tie.Need-same-length Inv-loop μ-loop
+same-length c = c .before .before .fill .kept .0 ∙ drawn-length (c .before .before .before .before .before .before .loop .inv .1)
+
+returns : tie.Need-returns Inv-loop μ-loop
+unfolding putFields
+returns c =
+    let done = c .before .before in
+    let bits = done .before in
+    let left = bits .before .before in
+    let loop = left .before .loop in
+    let start = left .before .before .before .before .before .before in
+    let p = start .args .p in
     let es = edgesOf (readOf (now (start .args .text))) in
     let all : loop .i ≡ start .args .s .edges = le-antisymm (loop .inv .0) (left .loop-test .left) in
     let whole : take (start .args .s .edges) es ≡ es = rw (count start) (take-length es) in
-    done .finish .ensures ∙ rw (all, whole) at (loop .inv .1 .ink)
+    let drawn : Drawn (now (start .args .part)) (start .args .bit) (edgeWidths p (start .args .s .edges)) (flat es) (loop .part) (loop .pen) =
+    rw (all, whole) at (loop .inv .1) in
+    done .fill .ensures ∙ rw (drawn .ink, drawn .place, bits .fill-bits .ensures)
+    (sym (puts-append (now (start .args .part)) (start .args .bit) (edgeWidths p (start .args .s .edges)) _ (flat es) (0 ∷ []) (fit-length _ _ (drawn .fit))))
 
 pub put-all-spec : {M : Type 1} → statement M
 put-all-spec =
@@ -131,6 +163,7 @@ put-all-spec =
     (λ c. omega (arith, more c))
     (λ c. omega (arith, more c))
     loop-again
-    finish-requires
+    fill-bits-requires
+    fill-requires
     same-length
     returns)

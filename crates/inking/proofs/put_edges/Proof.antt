@@ -1,5 +1,6 @@
 -- `inking::put_edges` meets its contract: what is written into the part that is lent on is written into the room. Assumes nothing.
 use mathlib.Core.Path.{_≡_, sym, ap, _∙_}
+use mathlib.Core.List.{[], _∷_, _++_}
 use Prim.Native.Nat.{ℕ, _+_, _*_, _/_, _%_}
 use native.Mathlib.Omega.{arith}
 use borrow.Author.Needs.{needs}
@@ -7,7 +8,7 @@ use denote.Ref.{now}
 use Rattle.pen.specs.Runs.{putFields}
 use Rattle.pen.proofs.Parts.{puts-drop}
 use Rattle.bits.proofs.Parts.{lent-tail, back-tail}
-use Rattle.layout.specs.Layout.{edgeWidths, flat}
+use Rattle.layout.specs.Layout.{edgeWidths, fillBits, flat}
 use Rattle.drawing.specs.Reader.{edgesOf, readOf}
 use Rattle.inking.proofs.put_edges.Statement.{statement}
 use Rattle.inking.proofs.put_edges.Tie as tie
@@ -19,8 +20,8 @@ returns c =
     let a = start .args in
     let room = now (a .room) in
     let from = a .bit / 8 in
-    let ws = edgeWidths (a .p) (a .s .edges) in
-    let vs = flat (edgesOf (readOf (now (a .text)))) in
+    let ws = edgeWidths (a .p) (a .s .edges) ++ (fillBits (a .p) (a .s .states) (a .s .edges) ∷ []) in
+    let vs = flat (edgesOf (readOf (now (a .text)))) ++ (0 ∷ []) in
     let at : from * 8 + a .bit % 8 ≡ a .bit = omega arith in
     back-tail room (put .put-all .last .1 .0) from
     ∙ rw (put .put-all .ensures, lent-tail room from)

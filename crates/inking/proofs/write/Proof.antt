@@ -1,15 +1,16 @@
 -- `inking::write` meets its contract: header, colours, edges and filling are the fields of the file, one after another. Assumes nothing.
 use mathlib.Core.Path.{_≡_, ap, ap₂, _∙_}
-use mathlib.Core.List.{List}
+use mathlib.Core.List.{List, [], _∷_, _++_}
 use Prim.Native.Nat.{ℕ, _≤_}
 use native.Mathlib.Omega.{arith}
 use borrow.Author.Needs.{needs}
 use denote.Ref.{now}
 use lib.ListN.{length, replicate}
-use Rattle.bits.specs.Bits.{Bytes, putField}
-use Rattle.pen.specs.Runs.{putFields}
+use Rattle.bits.specs.Bits.{Bytes}
+use Rattle.pen.specs.Runs.{total, putFields, placeOf}
 use Rattle.meaning.specs.Filter.{Filter}
-use Rattle.layout.specs.Layout.{edgesBegin, fileBits, bytesFor, fileLength, fillBits, edgeWidths, lengthOf, flat}
+use Rattle.layout.proofs.Bounds.{header-high}
+use Rattle.layout.specs.Layout.{headerBits, edgesBegin, fileBits, bytesFor, fileLength, fillBits, edgeWidths, lengthOf, flat}
 use Rattle.files.specs.Written.{header-fit, written-laid}
 use Rattle.drawing.specs.Reader.{readOf}
 use Rattle.inking.specs.Inking.{filterRead}
@@ -35,8 +36,8 @@ states-few c = laws.states-few (now (c .args .text)) (c .args .s) (c .pre .known
 edges-few : (c : tie.Start) → c .args .s .edges ≤ 65536
 edges-few c = laws.edges-few (now (c .args .text)) (c .args .s) (c .pre .known) (c .args .p) (c .pre .usable) (c .pre .writable)
 
-put-requires : tie.Need-put-requires
-put-requires c κs =
+begin-requires : tie.Need-begin-requires
+begin-requires c κs =
     let start = c .before .before .before in
     let w = start .pre .writable in
     record {
@@ -46,32 +47,35 @@ put-requires c κs =
       labels = rw (labels-are start) (w .labels-low);
     }
 
+-- where the colours begin
+place-is : (c : tie.After-begin) → placeOf (c .begin .result) ≡ headerBits (c .before .before .before .before .args .p)
+unfolding total headerBits
+place-is c = omega (arith, c .begin .ensures .place)
+
 put-colours-requires : tie.Need-put-colours-requires
-unfolding lengthOf fileLength bytesFor fileBits edgesBegin
 put-colours-requires c κs =
-    let put = c .before .before .before .before in
-    let start = put .before .before .before .before in
-    let same : length (put .put .last .1 .0) ≡ length (now (start .args .room)) = put .put .kept .1 .0 in
+    let begin = c .before .before .before in
+    let start = begin .before .before .before .before in
     record {
       usable = start .pre .usable;
       known = start .pre .known;
       writable = start .pre .writable;
-      begin = omega (arith, c .header-bits .ensures .1);
-      reaches = omega (arith, same, c .header-bits .ensures .0, start .pre .roomy);
+      ready = begin .begin .ensures .ready;
+      begin = omega (arith, place-is begin, header-high (start .args .p) (start .pre .usable));
     }
 
 edges-begin-requires : tie.Need-edges-begin-requires
 edges-begin-requires c κs =
-    let start = c .before .before .before .before .before .before .before .before .before .before .before .before in
+    let start = c .before .before .before .before .before .before .before .before .before .before .before in
     (start .pre .usable, states-few start)
 
 put-edges-requires : tie.Need-put-edges-requires
 unfolding lengthOf fileLength bytesFor fileBits
 put-edges-requires c κs =
     let colours = c .before .before .before .before in
-    let put = colours .before .before .before .before .before in
-    let start = put .before .before .before .before in
-    let same : length (colours .put-colours .last .1 .0) ≡ length (now (start .args .room)) = colours .put-colours .kept .1 .0 ∙ put .put .kept .1 .0 in
+    let begin = colours .before .before .before .before in
+    let start = begin .before .before .before .before in
+    let same : length (colours .put-colours .last .1 .0) ≡ length (now (start .args .room)) = colours .put-colours .kept .1 .0 ∙ begin .begin .kept .1 .0 in
     let begins : c .edges-begin .result ≡ edgesBegin (start .args .p) (length (F start .colours)) = rw (← states-are start) (c .edges-begin .ensures .0) in
     record {
       usable = start .pre .usable;
@@ -81,42 +85,32 @@ put-edges-requires c κs =
       reaches = omega (arith, same, begins, start .pre .roomy);
     }
 
-fill-requires : tie.Need-fill-requires
-fill-requires c κs =
-    let start = c .before .before .before .before .before .before .before .before .before .before .before .before .before .before .before .before .before in
-    (start .pre .usable, states-few start, edges-few start)
-
 returns : tie.Need-returns
 returns c =
-    let fill = c .before .before in
-    let edges = fill .before .before .before .before in
-    let begin = edges .before in
-    let colours = begin .before .before .before .before in
-    let header = colours .before in
-    let put = header .before .before .before .before in
-    let start = put .before .before .before .before in
+    let edges = c .before .before in
+    let at = edges .before in
+    let colours = at .before .before .before .before in
+    let begin = colours .before .before .before .before in
+    let start = begin .before .before .before .before in
     let p = start .args .p in
     let s = start .args .s in
     let room = now (start .args .room) in
-    let bytes : Bytes room = λ i. omega (arith, put .before .before .slice-known .given i) in
-    fill .fill .ensures
-    ∙ ap (λ (r : List ℕ). putField r (fileBits p (s .states) (s .edges)) (fillBits p (s .states) (s .edges)) 0)
-    (edges .put-edges .ensures
-    ∙ ap₂ (λ (r : List ℕ) (at : ℕ). putFields r at (edgeWidths p (s .edges)) (flat (F start .edges)))
+    let bytes : Bytes room = λ i. omega (arith, begin .before .before .slice-known .given i) in
+    edges .put-edges .ensures
+    ∙ ap₂ (λ (r : List ℕ) (k : ℕ). putFields r k (edgeWidths p (s .edges) ++ (fillBits p (s .states) (s .edges) ∷ [])) (flat (F start .edges) ++ (0 ∷ [])))
     (colours .put-colours .ensures
-    ∙ ap₂ (λ (r : List ℕ) (at : ℕ). putFields r at (replicate (s .states) (p .colour)) (F start .colours)) (put .put .ensures) (header .header-bits .ensures .0))
-    (begin .edges-begin .ensures .0))
-    ∙ rw (states-are start, edges-are start, labels-are start) (written-laid p (start .pre .usable) (F start) (start .pre .writable) room bytes (start .pre .roomy))
+    ∙ ap₂ (λ (r : List ℕ) (k : ℕ). putFields r k (replicate (s .states) (p .colour)) (F start .colours)) (begin .begin .ensures .ink) (place-is begin))
+    (at .edges-begin .ensures .0)
+    ∙ rw (states-are start, edges-are start, labels-are start)
+    (laws.edges-filled p _ (length (F start .colours)) (F start .edges) ∙ written-laid p (start .pre .usable) (F start) (start .pre .writable) room bytes (start .pre .roomy))
 
 pub write-spec : {M : Type 1} → statement M
 write-spec =
     tie.close
     (tie.spec
-    put-requires
-    (λ c κs. search needs)
+    begin-requires
     put-colours-requires
     edges-begin-requires
     put-edges-requires
-    fill-requires
     (λ c. search needs)
     returns)

@@ -1,37 +1,26 @@
--- `file::fill` meets its contract. Assumes nothing.
-use mathlib.Core.Path.{_∙_, ap}
-use Prim.Native.Nat.{ℕ, _*_, _-_}
+-- `layout::fill` meets its contract. Assumes nothing.
+use mathlib.Core.Path.{_∙_, ap₂}
+use Prim.Native.Nat.{ℕ}
 use native.Mathlib.Omega.{arith}
 use borrow.Author.Needs.{needs}
 use denote.Ref.{now}
 use lib.Pow.{pow-pos}
 use Rattle.bits.specs.Bits.{putField}
-use Rattle.layout.specs.Layout.{bytesFor, fileLength, fillBits}
+use Rattle.layout.proofs.Bounds.{fill-lt}
 use Rattle.layout.proofs.fill.Statement.{statement}
 use Rattle.layout.proofs.fill.Tie as tie
 
-mul-put : tie.Need-mul-put
-unfolding bytesFor
-mul-put c = omega (arith, c .bytes-for .ensures, c .before .before .file-bits .ensures .1)
-
-sub-put : tie.Need-sub-put
-unfolding bytesFor
-sub-put c = omega (arith, c .bytes-for .ensures)
-
 put-requires : tie.Need-put-requires
-unfolding bytesFor
-put-requires c κs = (omega (arith, c .bytes-for .ensures), pow-pos (c .bytes-for .result * 8 - c .before .before .file-bits .result))
+put-requires c κs =
+    let a = c .before .before .before .before .args in
+    (omega (arith, c .fill-bits .ensures, fill-lt (a .p) (a .n) (a .e)), pow-pos (c .fill-bits .result))
 
 returns : tie.Need-returns
-unfolding fillBits fileLength
 returns c =
     let put = c .before .before in
-    let bytes = put .before in
-    let bits = bytes .before .before in
-    let room = now (bits .before .before .args .room) in
-    put .put .ensures
-    ∙ ap (λ (l : ℕ). putField room (bits .file-bits .result) (l * 8 - bits .file-bits .result) 0) (bytes .bytes-for .ensures)
-    ∙ ap (λ (k : ℕ). putField room k (bytesFor k * 8 - k) 0) (bits .file-bits .ensures .0)
+    let fill = put .before in
+    let bits = fill .before in
+    put .put .ensures ∙ ap₂ (λ (k w : ℕ). putField (now (bits .before .before .before .args .room)) k w 0) (bits .file-bits .ensures .0) (fill .fill-bits .ensures)
 
 pub fill-spec : {M : Type 1} → statement M
 fill-spec =
@@ -39,8 +28,6 @@ fill-spec =
     (tie.spec
     (λ c κs. search needs)
     (λ c κs. search needs)
-    mul-put
-    sub-put
     put-requires
     (λ c. search needs)
     returns)

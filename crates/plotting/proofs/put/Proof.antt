@@ -13,24 +13,20 @@ use Rattle.plotting.proofs.put.Statement.{statement}
 use Rattle.plotting.proofs.put.Tie as tie
 
 -- each piece as the code has it is a piece of the text
-states-are : (c : tie.After-colours-of) → let a = c .before .before .before .args in
-    stateLines 0 (take (a .n) (c .colours-of .result)) ≡ stateLines 0 (coloursIn (a .p) (now (a .file)))
+states-are : (c : tie.Start) → stateLines 0 (take (c .args .n) (now (c .args .colours))) ≡ stateLines 0 (coloursIn (c .args .p) (now (c .args .file)))
 states-are c =
-    let start = c .before .before .before in
-    let a = start .args in
-    ap (stateLines 0) (colours-are (a .p) (now (a .file)) (start .pre .0 .usable) (c .colours-of .result) (a .n) (start .pre .0 .states) (c .colours-of .ensures))
+    let a = c .args in
+    let ok = c .pre .0 in
+    ap (stateLines 0) (colours-are (a .p) (now (a .file)) (ok .usable) (now (a .colours)) (a .n) (ok .states) (ok .coloured))
 
 abbrev begun : tie.After-edges-begin → tie.After-put-states
 begun c = c .before .before .before .before
 
 abbrev opened : tie.After-put-states → tie.After-put
-opened c = c .before .before .before .before .before
-
-abbrev coloured : tie.After-put → tie.After-colours-of
-coloured c = c .before .before .before
+opened c = c .before .before .before .before
 
 abbrev started : tie.After-put → tie.Start
-started c = coloured c .before .before .before
+started c = c .before .before .before .before .before
 
 lines-are : (c : tie.After-edges-begin) → let a = started (opened (begun c)) .args in
     edgeLines (edgesFrom (a .p) (now (a .file)) (c .edges-begin .result) (a .e)) ≡ edgeLines (edgesIn (a .p) (now (a .file)))
@@ -41,19 +37,18 @@ lines-are c =
 
 put-requires : tie.Need-put-requires
 put-requires c κs =
-    let start = c .before .before .before .before .before in
+    let start = c .before .before .before .before in
     omega (arith, text-length (start .args .p) (now (start .args .file)), start .pre .1)
 
 put-states-requires : tie.Need-put-states-requires
 put-states-requires c κs =
-    let put = c .before .before .before .before in
-    let hues = coloured put in
+    let put = c .before .before .before in
     let start = started put in
     let a = start .args in
     let n≤256 = few (a .p) (now (a .file)) (start .pre .0) .0 in (
-      omega (arith, n≤256, hues .colours-of .ensures .long),
+      omega (arith, n≤256, start .pre .0 .coloured .long),
       n≤256,
-      omega (arith, put .put .kept .0, put .put .ensures .1, ap length (states-are hues), text-length (a .p) (now (a .file)), start .pre .1),
+      omega (arith, put .put .kept .0, put .put .ensures .1, ap length (states-are start), text-length (a .p) (now (a .file)), start .pre .1),
     )
 
 edges-begin-requires : tie.Need-edges-begin-requires
@@ -74,7 +69,7 @@ put-edges-requires c κs =
         arith,
         states .put-states .kept .0,
         states .put-states .ensures .1,
-        ap length (states-are (coloured put)),
+        ap length (states-are (started put)),
         put .put .kept .0,
         put .put .ensures .1,
         ap length (lines-are c),
@@ -98,7 +93,7 @@ put-requires-2 c κs =
       ap length (lines-are begin),
       states .put-states .kept .0,
       states .put-states .ensures .1,
-      ap length (states-are (coloured put)),
+      ap length (states-are (started put)),
       put .put .kept .0,
       put .put .ensures .1,
       text-length (a .p) (now (a .file)),
@@ -117,7 +112,7 @@ returns c =
     let room = now (a .room) in
     let first = stateLines 0 (coloursIn (a .p) file) in
     let second = edgeLines (edgesIn (a .p) file) in
-    let s = same _ (put .put .result) (states-are (coloured put)) (states .put-states .ensures .0) (states .put-states .ensures .1) in
+    let s = same _ (put .put .result) (states-are (started put)) (states .put-states .ensures .0) (states .put-states .ensures .1) in
     let e = same _ (states .put-states .result) (lines-are begin) (edges .put-edges .ensures .0) (edges .put-edges .ensures .1) in
     let two = both room 0 opening first (omega arith) (put .put .ensures .0) (put .put .ensures .1) (s .0) (s .1) in
     let three = both room 0 (opening ++ first) second (omega arith) (two .0) (two .1) (e .0) (e .1) in
@@ -128,7 +123,6 @@ pub put-spec : {M : Type 1} → statement M
 put-spec =
     tie.close
     (tie.spec
-    (λ c κs. search needs)
     (λ c. search needs)
     put-requires
     put-states-requires

@@ -1,6 +1,6 @@
--- `surveying::statements` meets its contract. The invariant: the survey is that of the statements so far, and what follows decides how the
--- text is read. Assumes nothing.
-use mathlib.Core.Path.{_≡_, sym, _∙_}
+-- `surveying::statements` meets its contract. The invariant: the survey is that of the statements so far, their edges are tested, and what
+-- follows decides how the text is read. Assumes nothing.
+use mathlib.Core.Path.{_≡_, sym, ap, _∙_}
 use Prim.Native.Nat.{_-_}
 use native.Mathlib.Omega.{arith}
 use borrow.Author.Needs.{needs}
@@ -8,72 +8,73 @@ use denote.Ref.{now}
 use lib.ListN.{length}
 use Rattle.drawing.specs.declared.Statement.the-variants as statement
 use Rattle.drawing.specs.Reader.{statementAt}
+use Rattle.surveying.specs.Surveys.{foundOf}
 use Rattle.surveying.proofs.Steps.{SoFar, countable, state-on, edge-on, step-state, step-edge, closed-is, outside-is, first-of-all}
 use Rattle.surveying.proofs.statements.Statement.{statement}
 use Rattle.surveying.proofs.statements.Tie as tie
 
 abbrev Inv-loop : tie.InvT-loop
-Inv-loop text at₀ s₀ at s = SoFar text at s
+Inv-loop text at₀ s₀ testing₀ at s testing = SoFar text at s testing
 
 abbrev μ-loop : tie.MeasureT-loop
-μ-loop text at₀ s₀ at s = length text - at
+μ-loop text at₀ s₀ testing₀ at s testing = length text - at
 
 loop-holds : tie.Need-loop-holds Inv-loop μ-loop
-loop-holds c = rw (c .begin .ensures) (first-of-all _ (c .before .before .pre))
+loop-holds c = rw (c .before .begin .ensures) (first-of-all _ _ (c .before .before .before .pre) (c .begin2 .ensures))
 
 state-is : (c : tie.After-known-told Inv-loop μ-loop) → let at-loop = c .before .before .before .before in
-    statementAt (now (at-loop .before .before .before .args .text)) (at-loop .loop .at) (at-loop .loop .s .next)
+    statementAt (now (at-loop .before .before .before .before .args .text)) (at-loop .loop .at) (at-loop .loop .s .next)
     ≡ statement.State (c .before .statement .given .0 .0) (c .before .statement .given .0 .1 .0)
 state-is c = sym (c .before .before .before .statement-at .ensures) ∙ c .before .statement .given .1
 
 edge-is : (c : tie.After-known-told2 Inv-loop μ-loop) → let at-loop = c .before .before .before .before in
-    statementAt (now (at-loop .before .before .before .args .text)) (at-loop .loop .at) (at-loop .loop .s .next)
+    statementAt (now (at-loop .before .before .before .before .args .text)) (at-loop .loop .at) (at-loop .loop .s .next)
     ≡ statement.Edge (c .before .statement2 .given .0 .0) (c .before .statement2 .given .0 .1 .0)
 edge-is c = sym (c .before .before .before .statement-at .ensures) ∙ c .before .statement2 .given .1
 
 with-state-requires : tie.Need-with-state-requires Inv-loop μ-loop
 with-state-requires c κs =
     let loop = c .before .before .before .before .loop in
-    countable _ _ (loop .s) (loop .inv) (omega arith) _ (state-on _ _ (loop .s) (loop .inv) _ _ (state-is c) .2)
+    countable _ _ (loop .s) (loop .testing) (loop .inv) (omega arith) _ (state-on _ _ (loop .s) (loop .testing) (loop .inv) _ _ (state-is c) .2)
 
 loop-less : tie.Need-loop-less Inv-loop μ-loop
 loop-less c =
     let loop = c .before .before .before .before .before .loop in
-    let on = state-on _ _ (loop .s) (loop .inv) _ _ (state-is (c .before)) in
+    let on = state-on _ _ (loop .s) (loop .testing) (loop .inv) _ _ (state-is (c .before)) in
     omega (arith, on .0, on .1)
 
 loop-again : tie.Need-loop-again Inv-loop μ-loop
 loop-again c =
     let loop = c .before .before .before .before .before .loop in
-    rw (c .with-state .ensures) (step-state _ _ (loop .s) (loop .inv) _ _ (state-is (c .before)))
+    rw (c .with-state .ensures) (step-state _ _ (loop .s) (loop .testing) (loop .inv) _ _ (state-is (c .before)))
 
-with-edge-requires : tie.Need-with-edge-requires Inv-loop μ-loop
-with-edge-requires c κs =
-    let loop = c .before .before .before .before .loop in
-    countable _ _ (loop .s) (loop .inv) (omega arith) _ (edge-on _ _ (loop .s) (loop .inv) _ _ (edge-is c) .2)
+with-edge-requires-2 : tie.Need-with-edge-requires-2 Inv-loop μ-loop
+with-edge-requires-2 c κs =
+    let loop = c .before .before .before .before .before .loop in
+    countable _ _ (loop .s) (loop .testing) (loop .inv) (omega arith) _ (edge-on _ _ (loop .s) (loop .testing) (loop .inv) _ _ (edge-is (c .before)) .2)
 
 loop-less-2 : tie.Need-loop-less-2 Inv-loop μ-loop
 loop-less-2 c =
-    let loop = c .before .before .before .before .before .loop in
-    let on = edge-on _ _ (loop .s) (loop .inv) _ _ (edge-is (c .before)) in
+    let loop = c .before .before .before .before .before .before .loop in
+    let on = edge-on _ _ (loop .s) (loop .testing) (loop .inv) _ _ (edge-is (c .before .before)) in
     omega (arith, on .0, on .1)
 
 loop-again-2 : tie.Need-loop-again-2 Inv-loop μ-loop
 loop-again-2 c =
-    let loop = c .before .before .before .before .before .loop in
-    rw (c .with-edge .ensures) (step-edge _ _ (loop .s) (loop .inv) _ _ (edge-is (c .before)))
+    let loop = c .before .before .before .before .before .before .loop in
+    rw (c .with-edge2 .ensures) (step-edge _ _ (loop .s) (loop .testing) (loop .inv) _ _ _ (edge-is (c .before .before)) (c .before .with-edge .ensures))
 
 returns : tie.Need-returns Inv-loop μ-loop
 returns c =
     let known = c .before .before in
     let loop = known .before .before .before .loop in
-    c .closed .ensures ∙ sym (closed-is _ _ (loop .s) (loop .inv) _ (sym (known .before .before .statement-at .ensures) ∙ known .statement3 .given .1))
+    ap foundOf (c .closed .ensures) ∙ closed-is _ _ (loop .s) (loop .testing) (loop .inv) _ (sym (known .before .before .statement-at .ensures) ∙ known .statement3 .given .1)
 
 returns-2 : tie.Need-returns-2 Inv-loop μ-loop
 returns-2 c =
     let known = c .before in
     let loop = known .before .before .before .loop in
-    sym (outside-is _ _ (loop .s) (loop .inv) _ (sym (known .before .before .statement-at .ensures) ∙ known .statement4 .given .1))
+    sym (outside-is _ _ (loop .s) (loop .testing) (loop .inv) _ (sym (known .before .before .statement-at .ensures) ∙ known .statement4 .given .1))
 
 pub statements-spec : {M : Type 1} → statement M
 statements-spec =
@@ -82,6 +83,7 @@ statements-spec =
     Inv-loop
     μ-loop
     (λ c κs. search needs)
+    (λ c κs. search needs)
     loop-holds
     (λ c κs. c .loop .inv .inside)
     (λ c. search needs)
@@ -89,7 +91,8 @@ statements-spec =
     loop-less
     loop-again
     (λ c. search needs)
-    with-edge-requires
+    (λ c κs. search needs)
+    with-edge-requires-2
     loop-less-2
     loop-again-2
     (λ c. search needs)

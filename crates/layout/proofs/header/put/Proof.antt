@@ -1,39 +1,19 @@
 -- `layout::header::put` meets its contract. Assumes nothing.
 use mathlib.Core.Path.{_∙_}
-use native.Mathlib.Omega.{arith}
 use borrow.Author.Needs.{needs}
-use Rattle.pen.specs.Runs.{total, Fit}
 use Rattle.pen.proofs.Pens.{drawn-behind}
+use Rattle.layout.proofs.Headers.{start-next, edges-next}
 use Rattle.layout.proofs.header.put.Statement.{statement}
 use Rattle.layout.proofs.header.put.Tie as tie
 
 push-requires : tie.Need-push-requires
-unfolding Fit total
-push-requires c κs =
-    let sizes = c .before .before .before in
-    let is = sizes .push-sizes .ensures in
-    let pre = sizes .before .before .before .pre in
-    record {
-      ready = is .ready;
-      narrow = omega (arith, pre .usable .start≤);
-      small = pre .fit .1 .1 .0;
-      near = omega (arith, is .place, pre .usable .states≤, pre .usable .labels≤, pre .usable .start≤);
-    }
+push-requires c κs = let sizes = c .before .before .before in start-next (sizes .before .before .before .pre) (sizes .push-sizes .ensures)
 
 push-requires-2 : tie.Need-push-requires-2
-unfolding Fit total
 push-requires-2 c κs =
     let push = c .before .before .before in
     let sizes = push .before .before .before .before in
-    let begun = push .push .ensures in
-    let is = sizes .push-sizes .ensures in
-    let pre = sizes .before .before .before .pre in
-    record {
-      ready = begun .ready;
-      narrow = omega (arith, pre .usable .edges≤);
-      small = pre .fit .1 .1 .1 .0;
-      near = omega (arith, begun .place, is .place, pre .usable .states≤, pre .usable .labels≤, pre .usable .start≤, pre .usable .edges≤);
-    }
+    edges-next (sizes .before .before .before .pre) (sizes .push-sizes .ensures) (push .push .ensures)
 
 finish-requires : tie.Need-finish-requires
 finish-requires c κs = c .before .before .before .push2 .ensures .ready

@@ -1,8 +1,8 @@
--- `pierhollow::told_place` meets its contract. Assumes nothing.
+-- `telling::told_place` meets its contract. Assumes nothing.
 use native.Mathlib.Omega.{arith}
 use borrow.Author.Tests.{lt-ltb, le-ltb}
-use Rattle.pierhollow.proofs.told_place.Statement.{statement}
-use Rattle.pierhollow.proofs.told_place.Tie as tie
+use Rattle.telling.proofs.told_place.Statement.{statement}
+use Rattle.telling.proofs.told_place.Tie as tie
 
 pub told-place-spec : {M : Type 1} → statement M
 told-place-spec =
