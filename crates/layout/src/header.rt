@@ -33,7 +33,7 @@ pub fn put(p: Profile, room: &mut [u8], n: usize, m: usize, start: usize, e: usi
     pen::finish(room, whole);
 }
 
-// The same with a pen that goes on behind them. The function above is not made of this one: pack would take up to a tenth longer.
+// The same with a pen that goes on behind them. The function above is not made of this one: pack would take longer.
 pub fn begin(p: Profile, room: &mut [u8], n: usize, m: usize, start: usize, e: usize) -> Pen
     requires { ⌜ Heading p n m start e ⌝ }
     ensures { λ r. ⌜ Drawn (now (room .entry)) 0 (headerWidths p) (headerValues n m start e) (now (room .exit)) r ⌝ }
