@@ -281,6 +281,8 @@ static void full_chain(struct filter *f) { make_full_chain(f, 256, SEED); }
 static void chain(struct filter *f) { make_chain(f, 256, SEED); }
 static void dense(struct filter *f) { make_dense(f, 256, SEED); }
 static void sparse(struct filter *f) { make_sparse(f, 256, SEED); }
+static void leftovers_256(struct filter *f) { make_leftovers(f, 256, 64, SEED); }
+static void leftovers_16(struct filter *f) { make_leftovers(f, 16, 4, SEED); }
 static void one_agent_5(struct filter *f) { make_one_agent(f, 5); }
 static void one_agent_20(struct filter *f) { make_one_agent(f, 20); }
 static void one_agent_64(struct filter *f) { make_one_agent(f, 64); }
@@ -303,6 +305,8 @@ static const struct {
     {"dense random 256 x 64", dense},
     {"chain of 256", chain},
     {"worst: chain 256 x 64, full", full_chain},
+    {"16 x 4, a quarter reached", leftovers_16},
+    {"256 x 64, a quarter reached", leftovers_256},
 };
 
 enum { FAMILIES = sizeof families / sizeof *families };

@@ -94,6 +94,18 @@ void make_sparse(struct filter *f, size_t n, uint64_t seed)
     }
 }
 
+void make_leftovers(struct filter *f, size_t n, size_t m, uint64_t seed)
+{
+    begin(f, n, m);
+    colour_at_random(f, 4, &seed);
+    for (size_t s = 0; s < n; s++) {
+        int live = s % 4 == 0;
+        add_edge(f, s, 0, live ? (s + 4) % n : random_below(&seed, n));
+        for (size_t y = 1; y < m; y++)
+            add_edge(f, s, y, live ? 4 * random_below(&seed, n / 4) : random_below(&seed, n));
+    }
+}
+
 void make_any(struct filter *f, size_t most_states, size_t most_labels, uint64_t *seed)
 {
     begin(f, 1 + random_below(seed, most_states), 1 + random_below(seed, most_labels));

@@ -34,6 +34,12 @@ void make_dense(struct filter *f, size_t n, uint64_t seed);
 /* Each state has four of 64 labels; labels, targets and two colours at random. */
 void make_sparse(struct filter *f, size_t n, uint64_t seed);
 
+/*
+ * Every state has every one of m labels; targets and four colours at random. The start leads to every fourth state and to no other: the
+ * rest are leftovers, which lead anywhere.
+ */
+void make_leftovers(struct filter *f, size_t n, size_t m, uint64_t seed);
+
 /* A filter of at most so many states and labels with any edges at all. */
 void make_any(struct filter *f, size_t most_states, size_t most_labels, uint64_t *seed);
 

@@ -519,19 +519,45 @@ uint64_t plain_trace(const uint8_t *file, size_t file_length,
 
 /* Reducing. */
 
-/* The classes: of each state the name of its class and the next member behind it, NONE for the last. */
+/* Marks the states that the start leads to. Where it leads to all, the search ends with the last of them. */
+static void mark_reached(const struct table *table, size_t start, size_t n, uint8_t *reached)
+{
+    uint8_t waiting[MOST_STATES + 1]; /* each reached state once, and the place behind them is written too */
+    size_t count = 1;
+    memset(reached, 0, n);
+    reached[start] = 1;
+    waiting[0] = (uint8_t)start;
+    for (size_t i = 0; i < count && count < n; i++) {
+        const uint8_t *targets = table->target + waiting[i] * MOST_LABELS;
+        for (uint64_t labels = table->has[waiting[i]]; labels != 0; labels &= labels - 1) {
+            uint8_t target = targets[__builtin_ctzll(labels)];
+            waiting[count] = target;
+            count += !reached[target];
+            reached[target] = 1;
+        }
+    }
+}
+
+/*
+ * The classes: of each state the name of its class and the next member behind it, NONE for the last. A state that is not reached is in
+ * none, and its name is not its own.
+ */
 struct partition {
     uint8_t name[MOST_STATES];
     uint16_t next[MOST_STATES];
 };
 
-/* All states of one colour form one class. Answers how many there are. */
-static size_t by_colour(struct partition *p, const uint8_t *hues, size_t n)
+/* All reached states of one colour form one class. Answers how many there are. */
+static size_t by_colour(struct partition *p, const uint8_t *hues, const uint8_t *reached, size_t n)
 {
     uint16_t last[64]; /* the last member so far of each colour's class */
     memset(last, 0xff, sizeof last);
     size_t count = 0;
     for (size_t s = 0; s < n; s++) {
+        if (!reached[s]) {
+            p->name[s] = (uint8_t)~s;
+            continue;
+        }
         size_t before = last[hues[s]];
         if (before == NONE) {
             p->name[s] = (uint8_t)s;
@@ -663,11 +689,15 @@ static size_t settle(struct partition *p, const struct table *table, size_t n)
 }
 
 /* Numbers the classes by ascending name; answers how many there are. */
-static size_t number_classes(const struct partition *p, size_t n, uint16_t *classes)
+static size_t number_classes(const struct partition *p, const uint8_t *reached, size_t n, uint16_t *classes)
 {
     size_t count = 0;
-    for (size_t s = 0; s < n; s++)
-        classes[s] = p->name[s] == s ? (uint16_t)count++ : classes[p->name[s]];
+    for (size_t s = 0; s < n; s++) {
+        if (!reached[s])
+            classes[s] = NONE;
+        else
+            classes[s] = p->name[s] == s ? (uint16_t)count++ : classes[p->name[s]];
+    }
     return count;
 }
 
@@ -720,6 +750,7 @@ uint64_t plain_reduce(const uint8_t *file, size_t file_length,
 {
     struct table table;
     uint8_t hues[MOST_STATES];
+    uint8_t reached[MOST_STATES];
     struct partition p;
     struct header h;
     uint64_t fault = test_into_table(file, file_length, &h, &table);
@@ -730,10 +761,11 @@ uint64_t plain_reduce(const uint8_t *file, size_t file_length,
     if (classes_length < h.n)
         return refused(CLASS_ROOM, 0);
     read_colours(file, file_length, h.n, hues);
-    size_t colours = by_colour(&p, hues, h.n);
+    mark_reached(&table, h.start, h.n, reached);
+    size_t colours = by_colour(&p, hues, reached, h.n);
     size_t rounds = settle(&p, &table, h.n);
     struct header reduced = {.m = h.m};
-    reduced.n = number_classes(&p, h.n, classes);
+    reduced.n = number_classes(&p, reached, h.n, classes);
     reduced.start = classes[h.start];
     reduced.e = gather(&p, &table, h.n);
     write_classes(&p, &table, hues, h.n, &reduced, classes, answer);

@@ -210,6 +210,7 @@ def corridor(wide, high):
 EXAMPLES = {
     "k": listed([0, 1, 1], [(0, 0, 1), (0, 1, 2), (1, 0, 0), (2, 1, 0)]),
     "n": listed([0, 1, 1, 2, 2, 3, 4], [(0, 0, 1), (0, 1, 2), (1, 0, 3), (2, 0, 4), (3, 0, 5), (4, 0, 6)]),
+    "p": listed([0, 0, 1], [(0, 0, 0), (1, 0, 2)]),
     "figure-1": figure_1(),
     "one-agent-5": one_agent(5, sure(in_target_region, if_no=0, if_yes=1, unknown=2)),
     "one-agent-5-yes": one_agent(5, sure(in_target_region, if_no=0, if_yes=1, unknown=0)),

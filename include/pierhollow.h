@@ -64,6 +64,9 @@ static inline uint64_t pierhollow_place(uint64_t returned)
 #define PIERHOLLOW_MOST_STATES 256
 #define PIERHOLLOW_MOST_LABELS 64
 
+/* What the class list has for a state that the start cannot reach. */
+#define PIERHOLLOW_DROPPED 65535
+
 /*
  * Reads the numbers of a filter file.
  * values: 0 states (n), 1 labels (m), 2 start, 3 edges (e).
@@ -103,8 +106,11 @@ uint64_t pierhollow_trace(const uint8_t *file, size_t file_length,
 
 /*
  * Reduces a filter file: writes the reduced file, which is never longer than the original, and the new number of each of
- * the n states. The answer room has as many bytes as the file or more, the class list n entries or more.
- * values: 0 reduced states, 1 distinct colours, 2 rounds, 3 the reduced file's length in bytes.
+ * the n states. States that the start cannot reach take no part: they keep no other states apart, the reduced file has
+ * neither them nor their edges, and their new number is PIERHOLLOW_DROPPED. They count for the rooms: the answer room has as
+ * many bytes as the file or more, the class list n entries or more.
+ * values: 0 reduced states, 1 distinct colours of the states that can be reached, 2 rounds, 3 the reduced file's length in
+ * bytes.
  */
 uint64_t pierhollow_reduce(const uint8_t *file, size_t file_length,
                            uint8_t *answer, size_t answer_length,

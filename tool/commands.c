@@ -40,6 +40,14 @@ static uint64_t to_dot(struct work *work)
     return returned;
 }
 
+static void print_new_number(struct bytes *output, unsigned state, uint16_t number)
+{
+    if (number == PIERHOLLOW_DROPPED)
+        print(output, "%u -\n", state);
+    else
+        print(output, "%u %u\n", state, (unsigned)number);
+}
+
 static uint64_t reduce(struct work *work)
 {
     uint64_t before[4];
@@ -55,7 +63,7 @@ static uint64_t reduce(struct work *work)
         return returned;
     print(&work->output, "%" PRIu64 " %" PRIu64 " %" PRIu64 " %" PRIu64 "\n", before[0], after[0], after[1], after[2]);
     for (unsigned state = 0; state < before[0]; state++)
-        print(&work->output, "%u %u\n", state, (unsigned)classes[state]);
+        print_new_number(&work->output, state, classes[state]);
     return 0;
 }
 

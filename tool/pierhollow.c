@@ -10,7 +10,7 @@
 
 enum status { ACCEPTED = 0, REFUSED = 1, FAILED = 2 };
 
-static const char version[] = "pierhollow 1\n";
+static const char version[] = "pierhollow 2\n";
 
 static const char help[] =
     "Usage: pierhollow COMMAND [-o FILE] [FILE]\n"
@@ -20,7 +20,7 @@ static const char help[] =
     "  from-dot [FILE]  write the filter file of a drawing\n"
     "  to-dot [FILE]    write the drawing of a filter file\n"
     "  reduce [FILE]    print states, reduced states, colours and rounds, then each\n"
-    "                   state and its new number\n"
+    "                   state and its new number, - for one that cannot be reached\n"
     "  shrink [FILE]    write the reduced filter file\n"
     "  trace FILE       trace the bytes of standard input, each an observation\n"
     "\n"

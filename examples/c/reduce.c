@@ -30,6 +30,9 @@ int main(void)
     printf("%" PRIu64 " states become %" PRIu64 " in %" PRIu64 " rounds; %zu bytes become %" PRIu64 "\n",
            before[0], after[0], after[2], length, after[3]);
     for (uint64_t state = 0; state < before[0]; state++)
-        printf("state %" PRIu64 " is now %u\n", state, (unsigned)classes[state]);
+        if (classes[state] == PIERHOLLOW_DROPPED)
+            printf("state %" PRIu64 " is dropped: the start cannot reach it\n", state);
+        else
+            printf("state %" PRIu64 " is now %u\n", state, (unsigned)classes[state]);
     return 0;
 }

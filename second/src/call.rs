@@ -110,6 +110,9 @@ pub fn trace(file: &[u8], observations: &[u8], colour_room: &mut [u8]) -> Answer
     })
 }
 
+/// What a class list has for a state that is dropped.
+pub const DROPPED: u16 = 65_535;
+
 /// Counts: the reduced states, the distinct colours, the rounds, the reduced file's length. Writes the reduced file to the
 /// front of the answer room and the new numbers to the first n entries.
 pub fn reduce(file: &[u8], answer_room: &mut [u8], class_entries: &mut [u16]) -> Answer {
@@ -129,7 +132,7 @@ pub fn reduce(file: &[u8], answer_room: &mut [u8], class_entries: &mut [u16]) ->
         answer_room[i] = byte;
     }
     for (state, &number) in reduced.numbers.iter().enumerate() {
-        class_entries[state] = number as u16;
+        class_entries[state] = number.map_or(DROPPED, |number| number as u16);
     }
     Answer::accepted([
         reduced.filter.n(),

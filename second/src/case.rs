@@ -163,7 +163,8 @@ impl Case {
     }
 }
 
-fn entries_of(class_list: &[u8]) -> Vec<u16> {
+/// A class list as it stands in a case or an outcome.
+pub fn entries_of(class_list: &[u8]) -> Vec<u16> {
     class_list
         .chunks_exact(2)
         .map(|two| u16::from_be_bytes([two[0], two[1]]))

@@ -1,6 +1,7 @@
 //! The kinds of outcome that a run has to hit, so that none is left to luck.
 
-use crate::case::{Call, Case, Outcome};
+use crate::call::DROPPED;
+use crate::case::{entries_of, Call, Case, Outcome};
 use crate::dot::{self, labels_up_to, Drawing};
 use crate::file::{read, Header};
 use crate::trace::MOST_OBSERVATIONS;
@@ -23,6 +24,12 @@ pub enum Kind {
     ManyRounds,
     NothingMerged,
     Merged,
+    /// Where dropped states stand among those that the start reaches, and that it reaches itself alone.
+    NothingDropped,
+    DroppedBefore,
+    DroppedBetween,
+    DroppedBehind,
+    AllButOneDropped,
     /// A text's 15: at its first byte, further on, behind the closing brace, and at its end, where something is missing.
     AtOnce,
     Inside,
@@ -95,6 +102,11 @@ pub fn all_of(call: Call) -> Vec<Kind> {
             Kind::ManyRounds,
             Kind::NothingMerged,
             Kind::Merged,
+            Kind::NothingDropped,
+            Kind::DroppedBefore,
+            Kind::DroppedBetween,
+            Kind::DroppedBehind,
+            Kind::AllButOneDropped,
         ]);
     }
     if call == Call::FromDot {
@@ -163,16 +175,38 @@ fn of_reduce(case: &Case, outcome: &Outcome) -> Vec<Kind> {
             if rounds >= MANY_ROUNDS {
                 kinds.push(Kind::ManyRounds);
             }
-            kinds.push(if states == n {
+            let list = &entries_of(&outcome.c)[..n as usize];
+            let dropped: Vec<bool> = list.iter().map(|&entry| entry == DROPPED).collect();
+            let reached = dropped.iter().filter(|&&dropped| !dropped).count();
+            kinds.push(if states == reached as u64 {
                 Kind::NothingMerged
             } else {
                 Kind::Merged
             });
+            kinds.extend(of_dropped(&dropped));
         }
         10 if (case.c.len() as u64) < 2 * n => kinds.push(Kind::BothShort),
         _ => {}
     }
     kinds
+}
+
+/// Of each state whether it is dropped.
+fn of_dropped(states: &[bool]) -> Vec<Kind> {
+    let first = states.iter().position(|&dropped| !dropped);
+    let last = states.iter().rposition(|&dropped| !dropped);
+    let (Some(first), Some(last)) = (first, last) else {
+        return Vec::new();
+    };
+    let kinds = [
+        (Kind::NothingDropped, !states.contains(&true)),
+        (Kind::DroppedBefore, first > 0),
+        (Kind::DroppedBetween, states[first..last].contains(&true)),
+        (Kind::DroppedBehind, last + 1 < states.len()),
+        (Kind::AllButOneDropped, first == last && states.len() > 1),
+    ];
+    let hold = kinds.into_iter().filter(|&(_, holds)| holds);
+    hold.map(|(kind, _)| kind).collect()
 }
 
 fn of_text(case: &Case, outcome: &Outcome) -> Option<Kind> {

@@ -6,7 +6,7 @@
 //! - [`bits`], [`file`]: the filter file, read and written;
 //! - [`dot`], [`dot::by_force`]: filters drawn as texts, and by force where a text leaves their profile;
 //! - [`trace`]: a ride through a filter;
-//! - [`reduce`], [`rounds`]: its reduction, and that round by round as text;
+//! - [`reach`], [`reduce`], [`rounds`]: the states that its start reaches, its reduction, and that round by round as text;
 //! - [`side_by_side`]: whether one filter does another's work, by a search over both;
 //! - [`call`]: the library's calls;
 //! - [`program`], [`streams`]: what the programs print, and how they read and write;
@@ -36,6 +36,7 @@ pub mod make;
 pub mod program;
 pub mod proved;
 pub mod random;
+pub mod reach;
 pub mod reduce;
 pub mod rides;
 pub mod rounds;

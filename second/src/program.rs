@@ -43,7 +43,10 @@ pub fn reduce(input: &[u8]) -> String {
         reduced.rounds
     );
     for (state, number) in reduced.numbers.iter().enumerate() {
-        text += &format!("{state} {number}\n");
+        text += &match number {
+            Some(number) => format!("{state} {number}\n"),
+            None => format!("{state} -\n"),
+        };
     }
     text
 }

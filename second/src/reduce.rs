@@ -1,8 +1,10 @@
-//! The reduction of a filter, as document 01 tells it: classes are sets of states, split round by round.
+//! The reduction of a filter, as document 01 tells it: classes are sets of states, split round by round. States that the
+//! start cannot reach are dropped, as document 02 has it: they are in no class.
 
 use std::collections::{BTreeMap, BTreeSet};
 
 use crate::file::{Edge, Filter};
+use crate::reach::reached;
 
 /// The states of one class. Its name is its smallest state, so sets of classes are in the order of their names.
 pub type Class = BTreeSet<u64>;
@@ -15,8 +17,9 @@ pub fn name(class: &Class) -> u64 {
 #[derive(Clone, Debug, PartialEq, Eq)]
 pub struct Reduced {
     pub filter: Filter,
-    /// The new number of each state of the original.
-    pub numbers: Vec<u64>,
+    /// The new number of each state of the original; a dropped one has none.
+    pub numbers: Vec<Option<u64>>,
+    /// Those of the reached states.
     pub distinct_colours: u64,
     pub rounds: u64,
 }
@@ -63,33 +66,34 @@ pub fn stages(filter: &Filter) -> Vec<Stage> {
 
 fn one_class_a_colour(filter: &Filter) -> BTreeSet<Class> {
     let mut of_colour: BTreeMap<u64, Class> = BTreeMap::new();
-    for (state, &colour) in (0..).zip(&filter.colours) {
+    for state in reached(filter) {
+        let colour = filter.colours[state as usize];
         of_colour.entry(colour).or_default().insert(state);
     }
     of_colour.into_values().collect()
 }
 
-/// For each state the position of its class.
-fn numbers(filter: &Filter, classes: &BTreeSet<Class>) -> Vec<u64> {
-    let mut numbers = vec![0; filter.colours.len()];
+/// For each state the position of its class, where it is in one.
+fn numbers(filter: &Filter, classes: &BTreeSet<Class>) -> Vec<Option<u64>> {
+    let mut numbers = vec![None; filter.colours.len()];
     for (number, class) in (0..).zip(classes) {
         for &state in class {
-            numbers[state as usize] = number;
+            numbers[state as usize] = Some(number);
         }
     }
     numbers
 }
 
-/// For each state and label the number of the class that the edge leads to, where there is an edge. A map of wider numbers
-/// would do, but a long chain takes millions of looks.
+/// For each member of a class and label the number of the class that the edge leads to, where there is an edge. Dropped
+/// states have a row too, which no one looks at. A map of wider numbers would do, but a long chain takes millions of looks.
 type Leads = Vec<Vec<Option<u8>>>;
 
 fn leads(filter: &Filter, classes: &BTreeSet<Class>) -> Leads {
     let numbers = numbers(filter, classes);
     let mut leads = vec![vec![None; filter.m as usize]; filter.colours.len()];
     for edge in &filter.edges {
-        let number = u8::try_from(numbers[edge.target as usize]).expect("at most 256 classes");
-        leads[edge.source as usize][edge.label as usize] = Some(number);
+        let byte = |number| u8::try_from(number).expect("at most 256 classes");
+        leads[edge.source as usize][edge.label as usize] = numbers[edge.target as usize].map(byte);
     }
     leads
 }
@@ -131,19 +135,17 @@ fn groups(leads: &Leads, class: &Class) -> Vec<Class> {
 
 fn merged(filter: &Filter, classes: &BTreeSet<Class>) -> Filter {
     let numbers = numbers(filter, classes);
+    let of_reached = |state: u64| numbers[state as usize].expect("a reached state");
     let lead = |edge: &Edge| {
-        (
-            numbers[edge.source as usize],
-            edge.label,
-            numbers[edge.target as usize],
-        )
+        let source = numbers[edge.source as usize]?;
+        Some((source, edge.label, of_reached(edge.target)))
     };
-    let edges: BTreeSet<(u64, u64, u64)> = filter.edges.iter().map(lead).collect();
+    let edges: BTreeSet<(u64, u64, u64)> = filter.edges.iter().filter_map(lead).collect();
     let colour = |class: &Class| filter.colours[name(class) as usize];
     Filter {
         colours: classes.iter().map(colour).collect(),
         m: filter.m,
-        start: numbers[filter.start as usize],
+        start: of_reached(filter.start),
         edges: edges
             .into_iter()
             .map(|(source, label, target)| Edge {

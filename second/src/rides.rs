@@ -21,6 +21,12 @@ pub const K_REDUCED: &[u8] = &[
     0x80, 0x00,
 ];
 
+/// P itself is given by colours and edges; document 02 makes one state of it, with the edge of state 0.
+pub const P: &[u8] = &[
+    0x02, 0x00, 0x00, 0x00, 0x10, 0x00, 0x02, 0x00, 0x00, 0x00, 0x08, 0x00, 0x40,
+];
+pub const P_REDUCED: &[u8] = &[0x00, 0x00, 0x00, 0x00, 0x08, 0x00, 0x00, 0x00, 0x00];
+
 pub const K_COLOURS: &[u8] = &[0, 1, 1];
 pub const K_EDGES: &[u8] = &[0, 0, 1, 0, 1, 2, 1, 0, 0, 2, 1, 0];
 pub const K_REDUCED_COLOURS: &[u8] = &[0, 1];
@@ -110,13 +116,13 @@ pub fn ride_p() -> Filter {
 
 /// Judging by classes already split in the same round parts state 3 from 0 a round too early, since 1 has just left: one
 /// round instead of two. No smaller filter shows that error, for a class needs three members, so that one is judged after
-/// a split, and a conflict needs a second class.
+/// a split, and a conflict needs a second class. State 2 is alone in that class, and its edge is there to reach 3.
 pub fn parted_in_the_next_round() -> Filter {
-    filter_of(&[0, 0, 1, 0], &[(0, 0, 1), (1, 0, 2), (3, 0, 3)])
+    filter_of(&[0, 0, 1, 0], &[(0, 0, 1), (1, 0, 2), (2, 0, 3), (3, 0, 3)])
 }
 
 /// The same error parts states 1 and 3, which lead to each other, for 1 has left and 3 has not: four states instead of
-/// three.
+/// three. Again 2 is alone, and its edge is there to reach 1.
 pub fn never_parted() -> Filter {
-    filter_of(&[0, 0, 1, 0], &[(0, 0, 2), (1, 0, 3), (3, 0, 1)])
+    filter_of(&[0, 0, 1, 0], &[(0, 0, 2), (1, 0, 3), (2, 0, 1), (3, 0, 1)])
 }

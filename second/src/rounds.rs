@@ -1,8 +1,8 @@
 //! The rounds of a reduction as text, to follow one with a pencil.
 //!
 //! A line for the beginning and one for each round: the round's number, 0 for the beginning; for a round the name of the
-//! class that it took; a colon; then for each state, from 0 on, the name of its class after the round. Fields are parted
-//! by one space. A file that is refused has the refusal line instead.
+//! class that it took; a colon; then for each state, from 0 on, the name of its class after the round, or `-` where it is
+//! dropped. Fields are parted by one space. A file that is refused has the refusal line instead.
 //!
 //! ```text
 //! 0: 0 1 1 3 3 5 6
@@ -23,29 +23,23 @@ pub fn rounds(file: &[u8]) -> String {
     stages
         .iter()
         .enumerate()
-        .map(|(round, stage)| line(round, stage))
+        .map(|(round, stage)| line(round, stage, filter.n()))
         .collect()
 }
 
-fn line(round: usize, stage: &Stage) -> String {
+fn line(round: usize, stage: &Stage, n: u64) -> String {
     let mut line = round.to_string();
     if let Some(taken) = stage.taken {
         line += &format!(" {taken}");
     }
     line.push(':');
-    for name in names(stage) {
-        line += &format!(" {name}");
+    for state in 0..n {
+        let own = stage.classes.iter().find(|class| class.contains(&state));
+        line += &match own {
+            Some(class) => format!(" {}", name(class)),
+            None => String::from(" -"),
+        };
     }
     line.push('\n');
     line
-}
-
-/// For each state the name of its class.
-fn names(stage: &Stage) -> Vec<u64> {
-    let mut of_states = Vec::new();
-    for class in &stage.classes {
-        of_states.extend(class.iter().map(|&state| (state, name(class))));
-    }
-    of_states.sort();
-    of_states.into_iter().map(|(_, name)| name).collect()
 }

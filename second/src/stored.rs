@@ -190,8 +190,8 @@ fn ride_r_reduced() -> Vec<Case> {
     ]
 }
 
-/// The rides; the most rounds that there can be; some rounds with some states merged; and rooms that would hold the
-/// reduced file but not the original.
+/// The rides; the most rounds that there can be; some rounds with some states merged; leftovers; and rooms that would hold
+/// the reduced file but not the original.
 fn reduces() -> Vec<Case> {
     let mut cases = Vec::new();
     for file in [C, K, K_REDUCED] {
@@ -205,6 +205,9 @@ fn reduces() -> Vec<Case> {
         chains::plain(256),
         thinned(40, 4, 3),
         thinned(90, 6, 20),
+        parted_by_leftovers(),
+        from_the_middle(),
+        regular(9, 2, 0),
     ] {
         let file = write(&filter);
         let entries = filter.colours.len();
@@ -212,11 +215,29 @@ fn reduces() -> Vec<Case> {
         cases.push(reduce(&file, file.len() + 13, 2 * entries + 9));
     }
     let without_edges = write(&regular(256, 1, 0));
-    let reduced = length(64, 0) as usize;
+    let reduced = length(1, 0) as usize;
     cases.push(reduce(&without_edges, reduced, 512));
     cases.push(reduce(&without_edges, reduced, 511));
     cases.push(reduce(&without_edges, without_edges.len(), 512));
     cases
+}
+
+/// The start, 2, leads to 3 and to 4, which become one. If the leftovers 0 and 1 took part they would be in 4's group and not
+/// in 3's, which alone has an edge by the same label, and their colour and 5's would be counted.
+fn parted_by_leftovers() -> Filter {
+    let edges = [(0, 0, 5), (1, 0, 5), (2, 0, 3), (2, 1, 4), (3, 0, 3)];
+    Filter {
+        start: 2,
+        ..filter_of(&[7, 7, 1, 7, 7, 63], &edges)
+    }
+}
+
+/// A chain from a state in its middle.
+fn from_the_middle() -> Filter {
+    Filter {
+        start: 12,
+        ..chains::plain(20)
+    }
 }
 
 /// Few colours, and two of five pairs without an edge.

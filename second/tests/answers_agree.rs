@@ -15,6 +15,8 @@ const LEAST_FILES: usize = 100_000;
 const LEAST_RIDES: usize = 100_000;
 /// Filters that were reduced.
 const LEAST_REDUCED: usize = 20_000;
+/// Of these, one in so many or more has states that are dropped.
+const ONE_IN_DROPS: usize = 4;
 /// Those of them with as many states and labels as there can be, and many rounds.
 const LEAST_LONG: usize = 20;
 /// Texts to be read, whether they are of the profile or not.
@@ -34,6 +36,7 @@ struct Tally {
     files: usize,
     rides: usize,
     reduced: usize,
+    dropping: usize,
     long: usize,
     texts: usize,
     drawn: usize,
@@ -52,6 +55,7 @@ impl Tally {
             Call::Trace if [0, 12, 13].contains(&number) => self.rides += 1,
             Call::Reduce if number == 0 => {
                 self.reduced += 1;
+                self.dropping += usize::from(!kinds.contains(&Kind::NothingDropped));
                 if kinds.contains(&Kind::ManyRounds) && is_full_size(&case.a) {
                     self.long += 1;
                 }
@@ -95,13 +99,25 @@ fn answers_agree() {
         }
     }
     println!(
-        "{} cases, {} files, {} rides, {} reduced, {} of them long, {} texts, {} drawn",
-        tally.cases, tally.files, tally.rides, tally.reduced, tally.long, tally.texts, tally.drawn
+        "{} cases, {} files, {} rides, {} reduced, {} of them long, {} with leftovers, {} texts, {} drawn",
+        tally.cases,
+        tally.files,
+        tally.rides,
+        tally.reduced,
+        tally.long,
+        tally.dropping,
+        tally.texts,
+        tally.drawn
     );
     for (what, tried, least) in [
         ("files", tally.files, LEAST_FILES),
         ("rides", tally.rides, LEAST_RIDES),
         ("reductions", tally.reduced, LEAST_REDUCED),
+        (
+            "reductions with leftovers",
+            tally.dropping,
+            tally.reduced / ONE_IN_DROPS,
+        ),
         ("long reductions", tally.long, LEAST_LONG),
         ("texts", tally.texts, LEAST_TEXTS),
         ("drawings", tally.drawn, LEAST_DRAWN),

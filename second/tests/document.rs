@@ -1,4 +1,4 @@
-//! The second program against what document 01 says in numbers.
+//! The second program against what documents 01 and 02 say in numbers.
 
 use second::call::{check, pack, reduce, trace, unpack, Answer};
 use second::case::Case;
@@ -301,7 +301,40 @@ fn ride_r_reduced() {
     reduced_in(K, (0, 0), refused(10, 0), NOTHING);
 }
 
-/// 10 goes by the original's length: eight states of one colour become one.
+/// P's start leads to itself alone, so states 1 and 2 are dropped. Rooms still go by the whole file, of 13 bytes and three
+/// states.
+#[test]
+fn ride_p_reduced() {
+    assert_eq!(write(&ride_p()), P);
+    assert_eq!(write(&filter_of(&[0], &[(0, 0, 0)])), P_REDUCED);
+    assert_eq!(check(P), accepted([3, 1, 0, 2]));
+    let one = accepted([1, 1, 0, 9]);
+    let wrote: (&[u8], &[u16]) = (P_REDUCED, &[0, 65_535, 65_535]);
+    reduced_in(P, (13, 3), one, wrote);
+    reduced_in(P, (20, 7), one, wrote);
+    reduced_in(P_REDUCED, (9, 1), one, (P_REDUCED, &[0]));
+    reduced_in(P, (12, 3), refused(10, 0), NOTHING);
+    reduced_in(P, (13, 2), refused(11, 0), NOTHING);
+    assert_eq!(program::reduce(P), "3 1 1 0\n0 0\n1 -\n2 -\n");
+    assert_eq!(program::reduce(P_REDUCED), "1 1 1 0\n0 0\n");
+    assert_eq!(program::shrink(P), P_REDUCED);
+}
+
+/// Dropping changes no trace, and a trace looks at every state: P from its state 1 shows what only leftovers lead to.
+#[test]
+fn ride_p_traced() {
+    for file in [P, P_REDUCED] {
+        traced_in(file, &[0, 0, 0], 5, traced(), &[0, 0, 0, 0]);
+    }
+    let from_1 = Filter {
+        start: 1,
+        ..ride_p()
+    };
+    traced_in(&write(&from_1), &[0, 0], 3, stopped(1), &[0, 1]);
+    assert_eq!(program::reduce(&write(&from_1)), "3 2 2 0\n0 -\n1 0\n2 1\n");
+}
+
+/// 10 goes by the original's length: of eight states without an edge the start is left.
 #[test]
 fn the_answer_room_is_as_long_as_the_original() {
     let eight = write(&Filter {
@@ -314,8 +347,9 @@ fn the_answer_room_is_as_long_as_the_original() {
     for room in [6, 10] {
         reduced_in(&eight, (room, 8), refused(10, 0), NOTHING);
     }
-    let one = accepted([1, 1, 0, 6]);
-    reduced_in(&eight, (11, 8), one, (C, &[0; 8]));
+    let mut list = [65_535; 8];
+    list[7] = 0;
+    reduced_in(&eight, (11, 8), accepted([1, 1, 0, 6]), (C, &list));
 }
 
 #[test]
@@ -343,6 +377,8 @@ fn a_class_list_in_a_batch_has_two_bytes_an_entry() {
     assert_eq!(list(6), (0, vec![0, 0, 0, 1, 0, 1]));
     assert_eq!(list(7), (0, vec![0, 0, 0, 1, 0, 1, 0xee]));
     assert_eq!(list(8), (0, vec![0, 0, 0, 1, 0, 1, 0xee, 0xee]));
+    let of_p = Case::reduce(P.to_vec(), vec![0xee; 13], vec![0xee; 6]).outcome();
+    assert_eq!(of_p.c, [0, 0, 0xff, 0xff, 0xff, 0xff]);
 }
 
 #[test]

@@ -353,6 +353,7 @@ fn the_document_s_rides() {
     for (name, ride) in [
         ("k", K.to_vec()),
         ("n", write(&ride_n())),
+        ("p", P.to_vec()),
         ("figure-1", write(&ride_m())),
     ] {
         assert!(Example::named(name).original == ride, "{name}.filter");

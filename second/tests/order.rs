@@ -10,8 +10,9 @@ use second::make::damage::{one_faulty_edge, two_faulty_edges, Damage};
 use second::make::draft::Draft;
 use second::make::filters::shapes;
 use second::make::rooms::Room;
-use second::make::{contents, drawings, files, lists, reduces, texts, traces};
+use second::make::{contents, drawings, files, leftovers, lists, reduces, texts, traces};
 use second::random::{seed_or, Random};
+use second::reach::reached;
 use second::reduce::reduce;
 use std::collections::BTreeSet;
 use std::thread;
@@ -316,30 +317,25 @@ fn one_colour_is_one_state_and_different_colours_are_never_merged() {
             assert_eq!(case.outcome().answer.counts[..3], [1, 1, 0]);
         }
         for (i, case) in reduces::many_colours(random).iter().enumerate() {
-            let n = Header::of(&case.a).expect("a header").n;
+            let filter = read(&case.a).expect("accepted");
+            let live = reached(&filter);
+            let n = live.len() as u64;
+            // The start leads to all of them every other time.
+            assert!(i % 2 == 1 || n == filter.n());
             let [states, colours, rounds, _] = case.outcome().answer.counts;
             match i {
-                0 | 1 => assert_eq!((states, colours, rounds), (n, n, 0)),
-                _ => assert_eq!(colours, 64),
+                0..=3 => assert_eq!((states, colours, rounds), (n, n, 0)),
+                4 => assert_eq!(colours, 64),
+                _ => assert_eq!(colours, colours_of(&filter, &live)),
             }
         }
     });
 }
 
-/// The states that the start leads to.
-fn reached(filter: &Filter) -> BTreeSet<u64> {
-    let mut reached = BTreeSet::from([filter.start]);
-    loop {
-        let before = reached.len();
-        for edge in &filter.edges {
-            if reached.contains(&edge.source) {
-                reached.insert(edge.target);
-            }
-        }
-        if reached.len() == before {
-            return reached;
-        }
-    }
+/// How many colours these states have.
+fn colours_of(filter: &Filter, states: &BTreeSet<u64>) -> u64 {
+    let colours = states.iter().map(|&state| filter.colours[state as usize]);
+    colours.collect::<BTreeSet<u64>>().len() as u64
 }
 
 #[test]
@@ -362,6 +358,12 @@ fn filters_are_merged_and_parted_in_each_family() {
         reduces::unreachable_parts,
         reduces::copied_states,
         reduces::short_chains,
+        leftovers::anywhere,
+        leftovers::before_between_and_behind,
+        leftovers::the_first_state,
+        leftovers::leading_to_the_live,
+        leftovers::with_own_colours,
+        leftovers::far_to_the_last,
     ] {
         let mut cases = 0;
         let mut merged = 0;
@@ -370,9 +372,9 @@ fn filters_are_merged_and_parted_in_each_family() {
             for case in make(random) {
                 let answer = case.outcome().answer;
                 assert_eq!(answer.number, 0);
-                let n = Header::of(&case.a).expect("a header").n;
+                let live = reached(&read(&case.a).expect("accepted")).len() as u64;
                 cases += 1;
-                merged += u32::from(answer.counts[0] < n);
+                merged += u32::from(answer.counts[0] < live);
                 parted += u32::from(answer.counts[2] > 0);
             }
         });

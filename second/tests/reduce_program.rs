@@ -76,10 +76,10 @@ fn agree_on(what: &str, file: &[u8]) {
     all_write(what, file, &(REDUCE.own)(file), &(SHRINK.own)(file));
 }
 
-/// What document 01 prints, or says of its rides.
+/// What document 01 prints, or says of its rides, and document 02 of P.
 #[test]
 fn the_document_s_files() {
-    let [l, m, n, p] = [ride_l(), ride_m(), ride_n(), ride_p()].map(|ride| write(&ride));
+    let [l, m, n] = [ride_l(), ride_m(), ride_n()].map(|ride| write(&ride));
     let l_reduced = write(&filter_of(&[0], &[(0, 0, 0)]));
     for (file, text, bytes) in [
         (K, "3 2 2 0\n0 0\n1 1\n2 1\n", K_REDUCED),
@@ -87,7 +87,8 @@ fn the_document_s_files() {
         (&l, "2 1 1 0\n0 0\n1 0\n", &l_reduced),
         (&m, "4 4 2 1\n0 0\n1 1\n2 2\n3 3\n", &m),
         (&n, "7 7 5 2\n0 0\n1 1\n2 2\n3 3\n4 4\n5 5\n6 6\n", &n),
-        (&p, "3 3 2 1\n0 0\n1 1\n2 2\n", &p),
+        (P, "3 1 1 0\n0 0\n1 -\n2 -\n", P_REDUCED),
+        (P_REDUCED, "1 1 1 0\n0 0\n", P_REDUCED),
         (C, "1 1 1 0\n0 0\n", C),
         (A, "refused 1 0\n", &[]),
         (B, "refused 4 0\n", &[]),
@@ -229,6 +230,7 @@ fn standard_input_in_small_pieces() {
         (K, 5),
         (cut, 1),
         (H, 1),
+        (P, 1),
         (&write(&ride_n()), 1),
         (&write(&plain(256)), 7),
         (&longer_than_the_largest[..45_253], 4_099),

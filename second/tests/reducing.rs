@@ -1,10 +1,11 @@
-//! The second program's reducer against what document 01 says in numbers, and against what must hold of any reduction.
+//! The second program's reducer against what documents 01 and 02 say in numbers, and against what must hold of any reduction.
 
 use second::file::{length, read, write, Filter};
 use second::make::chains::plain;
-use second::make::reduces;
 use second::make::traces::walk;
+use second::make::{leftovers, reduces};
 use second::random::{seed, Random};
+use second::reach::reached;
 use second::reduce::{reduce, Reduced};
 use second::rides::*;
 use second::rounds::rounds;
@@ -12,7 +13,7 @@ use second::trace::ride;
 
 fn kept(original: Filter, distinct_colours: u64, rounds: u64) -> Reduced {
     Reduced {
-        numbers: (0..original.n()).collect(),
+        numbers: (0..original.n()).map(Some).collect(),
         filter: original,
         distinct_colours,
         rounds,
@@ -29,7 +30,7 @@ fn ride_c_stays_itself() {
 fn ride_k_folds_two_states() {
     let reduced = reduce(&read(K).expect("accepted"));
     assert_eq!(write(&reduced.filter), K_REDUCED);
-    assert_eq!(reduced.numbers, [0, 1, 1]);
+    assert_eq!(reduced.numbers, [0, 1, 1].map(Some));
     assert_eq!((reduced.distinct_colours, reduced.rounds), (2, 0));
 }
 
@@ -37,7 +38,7 @@ fn ride_k_folds_two_states() {
 fn ride_l_folds_into_one() {
     let reduced = reduce(&ride_l());
     assert_eq!(reduced.filter, filter_of(&[0], &[(0, 0, 0)]));
-    assert_eq!(reduced.numbers, [0, 0]);
+    assert_eq!(reduced.numbers, [0, 0].map(Some));
     assert_eq!(reduced.rounds, 0);
 }
 
@@ -51,9 +52,32 @@ fn ride_n_meets_the_bound() {
     assert_eq!(reduce(&ride_n()), kept(ride_n(), 5, 2));
 }
 
+/// The start leads to itself alone.
 #[test]
-fn ride_p_takes_one_round() {
-    assert_eq!(reduce(&ride_p()), kept(ride_p(), 2, 1));
+fn ride_p_becomes_one_state() {
+    let reduced = Reduced {
+        filter: filter_of(&[0], &[(0, 0, 0)]),
+        numbers: vec![Some(0), None, None],
+        distinct_colours: 1,
+        rounds: 0,
+    };
+    assert_eq!(reduce(&ride_p()), reduced);
+}
+
+/// N from its state 1, which leads to 3 and then to 5: their colours are 1, 2 and 3, and 2, 4 and 6 no longer part anything.
+#[test]
+fn ride_n_from_another_start() {
+    let mut filter = ride_n();
+    filter.start = 1;
+    let mut three_left = filter_of(&[1, 2, 3], &[(0, 0, 1), (1, 0, 2)]);
+    three_left.m = 2;
+    let reduced = Reduced {
+        filter: three_left,
+        numbers: vec![None, Some(0), None, Some(1), None, Some(2), None],
+        distinct_colours: 3,
+        rounds: 0,
+    };
+    assert_eq!(reduce(&filter), reduced);
 }
 
 /// The class of 0, 1 and 3 is split by where the edges lead: 1 to the class of 2, 0 and 3 to their own. So 1 is alone, and
@@ -75,9 +99,9 @@ fn classes_are_judged_as_the_round_began_and_part_later() {
 #[test]
 fn classes_are_judged_as_the_round_began_and_stay() {
     let reduced = reduce(&never_parted());
-    let merged = filter_of(&[0, 0, 1], &[(0, 0, 2), (1, 0, 1)]);
+    let merged = filter_of(&[0, 0, 1], &[(0, 0, 2), (1, 0, 1), (2, 0, 1)]);
     assert_eq!(reduced.filter, merged);
-    assert_eq!(reduced.numbers, [0, 1, 2, 1]);
+    assert_eq!(reduced.numbers, [0, 1, 2, 1].map(Some));
     assert_eq!((reduced.distinct_colours, reduced.rounds), (2, 1));
 }
 
@@ -98,6 +122,7 @@ fn the_rounds_as_text() {
     // Any two of M's states 1 to 3 have a label where one leads to 0 and the other does not.
     assert_eq!(rounds(&write(&ride_m())), "0: 0 1 1 1\n1 1: 0 1 2 3\n");
     assert_eq!(rounds(K), "0: 0 1 1\n");
+    assert_eq!(rounds(P), "0: 0 - -\n");
     assert_eq!(rounds(D), "refused 5 0\n");
 }
 
@@ -105,29 +130,43 @@ fn the_rounds_as_text() {
 fn what_holds_of_every_reduction() {
     let seed = seed();
     let mut random = Random::new(seed);
-    let mut folded = 0;
+    let (mut folded, mut dropped) = (0, 0);
     for _ in 0..100 {
         let cases = [
             reduces::small_filters(&mut random),
             reduces::sparse(&mut random),
             reduces::copied_states(&mut random),
+            leftovers::anywhere(&mut random),
+            leftovers::before_between_and_behind(&mut random),
+            leftovers::leading_to_the_live(&mut random),
         ];
         for case in cases.concat() {
             let original = read(&case.a).expect("accepted");
             let reduced = reduce(&original);
             holds(&original, &reduced, &mut random, &format!("SEED={seed}"));
-            folded += u32::from(reduced.filter.n() < original.n());
+            let live = reached(&original).len() as u64;
+            folded += u32::from(reduced.filter.n() < live);
+            dropped += u32::from(live < original.n());
         }
     }
-    assert!(folded > 0, "no filter was folded: SEED={seed}");
+    assert!(folded >= 100, "SEED={seed}: only {folded} were folded");
+    assert!(dropped >= 100, "SEED={seed}: only {dropped} had leftovers");
 }
 
 fn holds(original: &Filter, reduced: &Reduced, random: &mut Random, what: &str) {
     let filter = &reduced.filter;
-    assert!(
-        reduced.rounds + reduced.distinct_colours <= filter.n() && filter.n() <= original.n(),
-        "{what}"
-    );
+    let live = reached(original);
+    let bound = [
+        reduced.rounds + reduced.distinct_colours,
+        filter.n(),
+        live.len() as u64,
+        original.n(),
+    ];
+    assert!(bound.is_sorted(), "{what}: {bound:?}");
+    for (state, number) in (0..).zip(&reduced.numbers) {
+        assert_eq!(number.is_some(), live.contains(&state), "{what}");
+    }
+    assert_eq!(reached(filter), (0..filter.n()).collect(), "{what}");
     assert_eq!(read(&write(filter)), Ok(filter.clone()), "{what}");
     assert!(
         length(filter.n(), filter.e()) <= length(original.n(), original.e()),

@@ -2,7 +2,9 @@
 
 use second::case::Call;
 use second::frame::{answer_batch, read_batch, write_batch};
+use second::kinds::{self, Kind};
 use second::stored;
+use std::collections::BTreeSet;
 use std::path::Path;
 
 fn stored_file(name: &str) -> Vec<u8> {
@@ -37,6 +39,24 @@ fn the_stored_batch_has_every_number_and_stays_small() {
                 .any(|case| case.call == call && case.outcome().answer.number == number);
             assert!(hit, "no {call:?} that answers {number}");
         }
+    }
+    let seen: BTreeSet<Kind> = cases
+        .iter()
+        .filter(|case| case.call == Call::Reduce)
+        .flat_map(|case| kinds::of(case, &case.outcome()))
+        .collect();
+    for kind in [
+        Kind::NoRound,
+        Kind::ManyRounds,
+        Kind::Merged,
+        Kind::NothingMerged,
+        Kind::NothingDropped,
+        Kind::DroppedBefore,
+        Kind::DroppedBetween,
+        Kind::DroppedBehind,
+        Kind::AllButOneDropped,
+    ] {
+        assert!(seen.contains(&kind), "no reduction that is {kind:?}");
     }
     let batch = write_batch(&cases);
     assert!(batch.len() <= 90_000, "{} bytes", batch.len());

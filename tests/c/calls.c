@@ -1,6 +1,6 @@
 /*
  * Every call of the library from C: the values at their documented places, refusals with number and place, and rooms that a
- * refusal leaves as found. The cases are document 01's rides K, Q and R, and ride K drawn.
+ * refusal leaves as found. The cases are document 01's rides K, P, Q and R, and ride K drawn.
  */
 #include <stdio.h>
 #include <string.h>
@@ -13,6 +13,8 @@ static const uint8_t k_reduced[18] = {0x01, 0x04, 0x00, 0x00, 0x20, 0x00, 0x80, 
                                       0x00, 0x08, 0x08, 0x08, 0x00, 0x00, 0x20, 0x80, 0x00};
 static const uint8_t k_colours[3] = {0, 1, 1};
 static const uint8_t k_edges[12] = {0, 0, 1, 0, 1, 2, 1, 0, 0, 2, 1, 0};
+static const uint8_t p_file[13] = {0x02, 0x00, 0x00, 0x00, 0x10, 0x00, 0x02, 0x00, 0x00, 0x00, 0x08, 0x00, 0x40};
+static const uint8_t p_reduced[9] = {0x00, 0x00, 0x00, 0x00, 0x08, 0x00, 0x00, 0x00, 0x00};
 #define THREE_STATES "digraph {\n0 [label=0];\n1 [label=1];\n2 [label=1];\n"
 static const char k_drawing[] =
     THREE_STATES "0 -> 1 [label=0];\n0 -> 2 [label=1];\n1 -> 0 [label=0];\n2 -> 0 [label=1];\n}\n";
@@ -127,6 +129,28 @@ static void reduce(void)
     expect(classes[0] == 0 && classes[1] == 1 && classes[2] == 1 && classes[3] == 7, "reduce: the class list");
 }
 
+/* Ride P: the start leads to itself alone, and the rooms are still those of three states. */
+static void drop(void)
+{
+    uint64_t values[4] = {9, 9, 9, 9};
+    uint8_t answer[15];
+    uint16_t classes[4] = {7, 7, 7, 7};
+    memset(answer, 0xAA, sizeof answer);
+    expect_refusal(pierhollow_reduce(p_file, 13, answer, 12, classes, 3, values), PIERHOLLOW_ANSWER_ROOM, 0, "reduce of P: 12 bytes");
+    expect_refusal(pierhollow_reduce(p_file, 13, answer, 13, classes, 2, values), PIERHOLLOW_CLASS_ROOM, 0, "reduce of P: two entries");
+    expect(all(answer, 15, 0xAA) && classes[0] == 7 && values[0] == 9, "reduce of P: a refusal leaves the rooms");
+    expect(pierhollow_reduce(p_file, 13, answer, 15, classes, 4, values) == 0, "reduce of P");
+    expect(values_are(values, 4, (const uint64_t[4]){1, 1, 0, 9}), "reduce of P: one state, one colour, no round, nine bytes");
+    expect(memcmp(answer, p_reduced, 9) == 0 && all(answer + 9, 6, 0xAA), "reduce of P: the file, and the room behind it");
+    expect(classes[0] == 0 && classes[1] == 65535 && classes[2] == PIERHOLLOW_DROPPED && classes[3] == 7,
+           "reduce of P: the class list");
+    expect(pierhollow_reduce(p_reduced, 9, answer, 9, classes, 1, values) == 0 && memcmp(answer, p_reduced, 9) == 0 &&
+               classes[0] == 0,
+           "reduce of P reduced");
+    expect(pierhollow_check(p_file, 13, values) == 0 && values_are(values, 4, (const uint64_t[4]){3, 1, 0, 2}),
+           "check of P counts every state and edge");
+}
+
 static void from_dot_refuses(const char *text, unsigned number, uint64_t place, const char *what)
 {
     uint64_t values[1] = {9};
@@ -221,6 +245,7 @@ int main(void)
     pack();
     trace();
     reduce();
+    drop();
     from_dot();
     to_dot();
     longest();

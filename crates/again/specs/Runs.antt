@@ -4,15 +4,10 @@ use mathlib.Core.Path.{_≡_, sym, ap, _∙_}
 use mathlib.Core.Bool.{true}
 use mathlib.Core.List.{List}
 use lib.Dec.{eqb}
-use borrow.Author.Tests.{lt-ltb, le-ltb}
 use Rattle.meaning.specs.Search.{at}
 use Rattle.meaning.specs.Classes.{Task, Classes, round, chosen, cut, run, classes}
 use Rattle.meaning.specs.ClassesLaws.{name-own, split-class}
 use Rattle.meaning.specs.Reduction.{Fair, Good, round-good, round-grows, parted-chosen, run-keeps}
-
-pub run-over : (T : Task) (Q : Classes) (f : ℕ) → T .size ≤ chosen T (Q .names) → run (suc f) T Q ≡ Q
-unfolding run
-run-over T Q f h = rw (le-ltb (chosen T (Q .names)) (T .size) h, run)
 
 -- the record after the next round
 abbrev pub onward : Task → Classes → Classes
@@ -24,10 +19,6 @@ module _ (T : Task) (Q : Classes) (h : chosen T (Q .names) < T .size) where
 
   abbrev c : ℕ
   c = chosen T (Q .names)
-
-  pub run-on : (f : ℕ) → run (suc f) T Q ≡ run f T (onward T Q)
-  unfolding run
-  run-on f = rw (lt-ltb c (T .size) h, run)
 
   module _ (fair : Fair T) (good : Good T (Q .names)) where
     pub onward-good : Good T (onward T Q .names)

@@ -1,5 +1,6 @@
 -- Demand 3 over bytes: whatever an accepted file traces from its start, the file that reduce writes traces too, with the same
--- colours before the first observation and after each; and rounds + distinct colours ≤ reduced states ≤ original states.
+-- colours before the first observation and after each; and rounds + distinct colours ≤ reduced states ≤ reached states ≤ original
+-- states, where the colours are those of reached states.
 -- Stated over the definitions that the contracts of trace and reduce cite, and then of any answers and rooms that meet those
 -- contracts. Of any usable widths.
 -- Assumes nothing.
@@ -8,7 +9,6 @@ use mathlib.Core.Path.{_≡_, refl, sym, ap, _∙_, subst}
 use mathlib.Core.Bool.{true, false}
 use mathlib.Core.List.{List, [], _∷_}
 use mathlib.Core.Option.{none}
-use native.Mathlib.Nat.{le-trans}
 use native.Mathlib.Omega.{arith}
 use lib.Dec.{ltb}
 use lib.ListN.{length, take, drop}
@@ -17,8 +17,10 @@ use borrow.Author.Tests.{le-ltb}
 use Rattle.bits.specs.Bits.{Bytes}
 use Rattle.meaning.specs.Filter.{Filter, states, inOrder}
 use Rattle.meaning.specs.Trace.{shown, stops}
-use Rattle.meaning.specs.Reduced.{reduce, merged, reduced, distinct}
+use Rattle.meaning.specs.Search.{count}
+use Rattle.meaning.specs.Reduced.{live, reduce, merged, reduced, classList, distinct}
 use Rattle.meaning.specs.Demand.{reduced-bound, reduced-traces}
+use Rattle.meaning.specs.Dropped.{reachedPart, reduced-reached, part-rides}
 use Rattle.layout.specs.declared.Profile.{Profile}
 use Rattle.layout.specs.Code.{Usable}
 use Rattle.layout.specs.Layout.{lengthOf, written}
@@ -47,6 +49,10 @@ use Rattle.folding.proofs.Accepted.{reduced-writable, file-accepted}
 -- The bytes of the reduced file.
 abbrev pub reducedFile : Profile → List ℕ → List ℕ
 reducedFile P file = written P (reduced (filterIn P file))
+
+-- How many states the start of a file can reach.
+abbrev pub reachedStates : Profile → List ℕ → ℕ
+reachedStates P file = count (live (filterIn P file)) (states (filterIn P file))
 
 -- A file traces a sequence: no observation of it is without an edge.
 abbrev pub Traces : Profile → List ℕ → List ℕ → Type 0
@@ -95,12 +101,21 @@ module _ (P : Profile) (usable : Usable P) (file : List ℕ) (bytes : Bytes file
       let r = reduced-traces F few ok ys t in
       (ap (λ (G : Filter). stops G ys) reduced-file-holds ∙ r .0, ap (λ (G : Filter). shown G ys) reduced-file-holds ∙ r .1)
 
-  -- rounds + distinct colours ≤ reduced states ≤ original states
-  pub reduced-file-bound : (reduce F .rounds + distinct F ≤ states (reduced F)) × (states (reduced F) ≤ states F)
-  reduced-file-bound = let b = reduced-bound F few ok in (b .0, le-trans (b .1) (b .2))
+  -- rounds + distinct colours ≤ reduced states ≤ reached states ≤ original states
+  pub reduced-file-bound :
+      (reduce F .rounds + distinct F ≤ states (reduced F)) × (states (reduced F) ≤ reachedStates P file) × (reachedStates P file ≤ states F)
+  reduced-file-bound = reduced-bound F few ok
 
-  -- so the reduction must end: at most states minus colours rounds
-  pub rounds-at-most : reduce F .rounds ≤ states F - distinct F
+  -- every state of the reduced file is reached from its start
+  pub reduced-file-reached : (i : ℕ) → i < states (reduced F) → live (filterIn P (reducedFile P file)) i ≡ true
+  reduced-file-reached i h = ap (λ (G : Filter). live G i) reduced-file-holds ∙ reduced-reached F few ok i h
+
+  -- what the file traces and shows, the part of it that is reached traces and shows, and where the one stops the other does
+  pub reached-part-rides : (ys : List ℕ) → (stops (reachedPart F) ys ≡ stops F ys) × (shown (reachedPart F) ys ≡ Shows P file ys)
+  reached-part-rides = part-rides F few ok
+
+  -- so the reduction must end: at most reached states minus colours rounds
+  pub rounds-at-most : reduce F .rounds ≤ reachedStates P file - distinct F
   rounds-at-most = let b = reduced-file-bound in omega (arith, b .0, b .1)
 
 -- ---- in the terms of the calls
@@ -132,6 +147,7 @@ pub record Answered (P : Profile) (file : List ℕ) (found left : Rooms) (c : Co
   pub rounds-are : c .rounds ≡ reduce (filterIn P file) .rounds
   pub length-is : c .length ≡ lengthOf P (reduced (filterIn P file))
   pub room : left .answer ≡ laid (reducedFile P file) (found .answer)
+  pub list : left .classes ≡ laid (classList (filterIn P file)) (found .classes)
 
 pub answered : (P : Profile) (file : List ℕ) (found left : Rooms) (c : Counts) → ReducePromise P file found (answers.Accepted c) left → Answered P file found left c
 unfolding reduceOf countsOf
@@ -147,6 +163,7 @@ answered P file found left c p =
       rounds-are = cc;
       length-is = cc;
       room = cc (promise-laid p (sym (p .answer)));
+      list = cc (promise-laid p (sym (p .answer)));
     }
 
 -- The first `length` bytes of the answer room are the reduced file.

@@ -1,4 +1,4 @@
--- The marked rides: one claim over a list of them, about the definitions that the calls' contracts cite.
+-- The marked rides, and P, which document 02 changes: one claim over a list of them, about the definitions that the calls' contracts cite.
 -- Assumes nothing.
 use Prim.Native.Nat.{ℕ, _+_}
 use mathlib.Core.Path.{_≡_, refl, sym, ap, _∙_}
@@ -10,6 +10,7 @@ use Rattle.pen.specs.Runs.{fields, putFields}
 use Rattle.meaning.specs.Cases.{impossible}
 use Rattle.meaning.specs.Filter.{inside, comesBefore, samePlace}
 use Rattle.meaning.specs.Search.{any, least, count, tab}
+use Rattle.meaning.specs.Reach.{among, meet, visited, walked, reached}
 use Rattle.meaning.specs.Classes.{initial, parted, first, free, groups, split, round, chosen, begin, cut, run, reduction, classes, number}
 use Rattle.meaning.specs.Reduced.{apart, conflict, live, reduce, nameOf, mapped, class-edge, edge′, cell, row, listed, merged, reduced, classList, distinct}
 use Rattle.meaning.specs.Trace.{target, edge, colour, ridden, halted, shown, stops}
@@ -164,8 +165,20 @@ N =
     (stoppedAt 3)
     (0 ∷ 1 ∷ 2 ∷ 3 ∷ [])
 
+-- P's start leads to itself alone: what is left of it, and 65,535 for the two states that are dropped
+abbrev pub P : Ride
+P =
+    acceptedRide
+    (0x02 ∷ 0x00 ∷ 0x00 ∷ 0x00 ∷ 0x10 ∷ 0x00 ∷ 0x02 ∷ 0x00 ∷ 0x00 ∷ 0x00 ∷ 0x08 ∷ 0x00 ∷ 0x40 ∷ [])
+    (3 ∷ 1 ∷ 0 ∷ 2 ∷ [])
+    (0 ∷ 0 ∷ 1 ∷ [])
+    (0 ∷ 0 ∷ 0 ∷ 1 ∷ 0 ∷ 2 ∷ [])
+    (0x00 ∷ 0x00 ∷ 0x00 ∷ 0x00 ∷ 0x08 ∷ 0x00 ∷ 0x00 ∷ 0x00 ∷ 0x00 ∷ [])
+    (0 ∷ 65535 ∷ 65535 ∷ []) (1 ∷ 1 ∷ 0 ∷ 9 ∷ [])
+    (0 ∷ 0 ∷ []) traced (0 ∷ 0 ∷ 0 ∷ [])
+
 abbrev pub rides : List Ride
-rides = A ∷ B ∷ C ∷ D ∷ E ∷ F ∷ G ∷ H ∷ K ∷ K′ ∷ L ∷ N ∷ []
+rides = A ∷ B ∷ C ∷ D ∷ E ∷ F ∷ G ∷ H ∷ K ∷ K′ ∷ L ∷ N ∷ P ∷ []
 
 -- A ride with what the definitions make of its file: what reducing and tracing answer in rooms that are just long enough, and of
 -- each room what the call writes.
@@ -190,13 +203,13 @@ done r =
     }
 
 pub rides-hold : map done rides ≡ rides
-unfolding done reduceOf countsOf classList any least count tab initial parted first free groups split round chosen begin cut run reduction classes number apart conflict live reduce nameOf mapped class-edge edge′ cell row listed merged reduced distinct bitAt field splice putBit putField fields putFields inside comesBefore samePlace headerBits edgeBits edgesBegin fileBits bytesFor fileLength fillBits edgeWidths fileWidths flat fileValues lengthOf written statesIn labelsIn startIn countIn coloursIn edgeAt edgesFrom edgesIn filterIn lengthIn fillingIn edgeFault firstFault fileTests checkOf target edge colour ridden halted shown stops firstOutside traceOf
+unfolding done reduceOf countsOf classList among meet visited walked reached any least count tab initial parted first free groups split round chosen begin cut run reduction classes number apart conflict live reduce nameOf mapped class-edge edge′ cell row listed merged reduced distinct bitAt field splice putBit putField fields putFields inside comesBefore samePlace headerBits edgeBits edgesBegin fileBits bytesFor fileLength fillBits edgeWidths fileWidths flat fileValues lengthOf written statesIn labelsIn startIn countIn coloursIn edgeAt edgesFrom edgesIn filterIn lengthIn fillingIn edgeFault firstFault fileTests checkOf target edge colour ridden halted shown stops firstOutside traceOf
 rides-hold = refl
 
 -- ---- the two filters need not trace the same sequences
 
 file-K′ : reducedFile large (K .file) ≡ bytesK′
-unfolding any least count tab initial parted first free groups split round chosen begin cut run reduction classes number apart conflict live reduce nameOf mapped class-edge edge′ cell row listed merged reduced target edge colour bitAt field splice putBit putField fields putFields headerBits edgeBits edgesBegin fileBits bytesFor fileLength fillBits edgeWidths fileWidths flat fileValues lengthOf written statesIn labelsIn startIn countIn coloursIn edgeAt edgesFrom edgesIn filterIn
+unfolding among meet visited walked reached any least count tab initial parted first free groups split round chosen begin cut run reduction classes number apart conflict live reduce nameOf mapped class-edge edge′ cell row listed merged reduced target edge colour bitAt field splice putBit putField fields putFields headerBits edgeBits edgesBegin fileBits bytesFor fileLength fillBits edgeWidths fileWidths flat fileValues lengthOf written statesIn labelsIn startIn countIn coloursIn edgeAt edgesFrom edgesIn filterIn
 file-K′ = refl
 
 stops-K : (stops (filterIn large bytesK′) (0 ∷ 1 ∷ []) ≡ none) × (stops (filterIn large (K .file)) (0 ∷ 1 ∷ []) ≡ some 1)

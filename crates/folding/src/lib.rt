@@ -28,7 +28,7 @@ pub fn fold(
 {
     let n = reading.states;
     let colours = loading::colours_of(p, file, n);
-    let ending = rounds::settled(targets, labels, &colours, n);
+    let ending = rounds::settled(targets, labels, &colours, n, reading.start);
     let last = ending.last;
     let names = last.names;
     let made = merging::merged(

@@ -2,34 +2,45 @@
 -- Assumes nothing.
 use mathlib.Core.Path.{_≡_, sym, ap, _∙_}
 use mathlib.Core.List.{List, [], _∷_, _++_, append-nil, append-assoc}
+use mathlib.Core.Logic.{_⊎_, inl, inr}
 use Prim.Native.Nat.{ℕ, suc, _+_, _*_, _^_, _≤_, _<_}
 use native.Mathlib.Nat.{add-zero, zero-add}
 use native.Mathlib.Numerals.{add-one}
 use native.Mathlib.Omega.{arith}
 use lib.ListN.{length, getD, take, length-append}
 use lib.Seq.{length-take-le, take-suc}
+use borrow.Author.Tests.{eq-eqb, ne-eqb}
 use Rattle.text.specs.Decimal.{decimal}
 use Rattle.text.proofs.Laws.{decimal-most}
-use Rattle.lines.specs.Text.{space, newline, refusedWord, spaced, ended, pairLine, fourLine, refusalLine, pairLines}
+use Rattle.lines.specs.Text.{space, newline, dash, refusedWord, spaced, ended, pairLine, fourLine, refusalLine, numberLine, numberLines}
 
 -- the first numbers and one more
 pub take-more : (ns : List ℕ) (i : ℕ) → i < length ns → take (i + 1) ns ≡ take i ns ++ (getD ns i 0 ∷ [])
 take-more ns i h = ap (λ (k : ℕ). take k ns) (add-one i) ∙ take-suc ns i 0 h
 
--- one state's line behind those of the states before it
-pairs-snoc : (s : ℕ) (ks : List ℕ) (k : ℕ) → pairLines s (ks ++ (k ∷ [])) ≡ pairLines s ks ++ pairLine (s + length ks) k
-unfolding pairLines
-pairs-snoc s [] k = append-nil (pairLine s k) ∙ ap (λ (t : ℕ). pairLine t k) (sym (add-zero s))
-pairs-snoc s (m ∷ ks) k =
-    let next : suc s + length ks ≡ s + suc (length ks) = omega arith in
-    ap (λ (l : List ℕ). pairLine s m ++ l) (pairs-snoc (suc s) ks k ∙ ap (λ (t : ℕ). pairLines (suc s) ks ++ pairLine t k) next)
-    ∙ sym (append-assoc (pairLine s m) (pairLines (suc s) ks) (pairLine (s + suc (length ks)) k))
+-- the line of a dropped state, and that of another
+pub dropped-line : (s k : ℕ) → k ≡ 65535 → spaced s ++ (dash ++ newline) ≡ numberLine s k
+unfolding numberLine
+dropped-line s k e = rw (eq-eqb k 65535 e)
 
-pub pairs-more : (ks : List ℕ) (i : ℕ) → i < length ks → pairLines 0 (take i ks) ++ pairLine i (getD ks i 0) ≡ pairLines 0 (take (i + 1) ks)
-pairs-more ks i h =
+pub numbered-line : (s k : ℕ) → (k ≡ 65535 → ⊥) → pairLine s k ≡ numberLine s k
+unfolding numberLine
+numbered-line s k e = rw (ne-eqb k 65535 e)
+
+-- one state's line behind those of the states before it
+states-snoc : (s : ℕ) (ks : List ℕ) (k : ℕ) → numberLines s (ks ++ (k ∷ [])) ≡ numberLines s ks ++ numberLine (s + length ks) k
+unfolding numberLines
+states-snoc s [] k = append-nil (numberLine s k) ∙ ap (λ (t : ℕ). numberLine t k) (sym (add-zero s))
+states-snoc s (m ∷ ks) k =
+    let next : suc s + length ks ≡ s + suc (length ks) = omega arith in
+    ap (λ (l : List ℕ). numberLine s m ++ l) (states-snoc (suc s) ks k ∙ ap (λ (t : ℕ). numberLines (suc s) ks ++ numberLine t k) next)
+    ∙ sym (append-assoc (numberLine s m) (numberLines (suc s) ks) (numberLine (s + suc (length ks)) k))
+
+pub states-more : (ks : List ℕ) (i : ℕ) → i < length ks → numberLines 0 (take i ks) ++ numberLine i (getD ks i 0) ≡ numberLines 0 (take (i + 1) ks)
+states-more ks i h =
     let count : 0 + length (take i ks) ≡ i = zero-add _ ∙ length-take-le i ks (omega arith) in
     sym
-    (ap (pairLines 0) (take-more ks i h) ∙ pairs-snoc 0 (take i ks) (getD ks i 0) ∙ ap (λ (s : ℕ). pairLines 0 (take i ks) ++ pairLine s (getD ks i 0)) count)
+    (ap (numberLines 0) (take-more ks i h) ∙ states-snoc 0 (take i ks) (getD ks i 0) ∙ ap (λ (s : ℕ). numberLines 0 (take i ks) ++ numberLine s (getD ks i 0)) count)
 
 -- ---- how long lines are
 
@@ -63,9 +74,15 @@ four-most a b c d ha hb hc hd =
       ended-most 2 d hd,
     )
 
-pub pairs-most : (s : ℕ) (ks : List ℕ) → s + length ks ≤ 1000 → ((i : ℕ) → i < length ks → getD ks i 0 < 1000) → length (pairLines s ks) ≤ 8 * length ks
-unfolding pairLines
-pairs-most s [] h b = omega arith
-pairs-most s (k ∷ ks) h b =
-    let rest = pairs-most (suc s) ks (omega arith) (λ i l. b (suc i) (omega arith)) in
-    omega (arith, length-append (pairLine s k) (pairLines (suc s) ks), pair-most 2 2 s k (omega arith) (b 0 (omega arith)), rest)
+-- a state's line, with a number of three digits or a dash
+state-most : (s k : ℕ) → s < 1000 → (k < 1000) ⊎ (k ≡ 65535) → length (numberLine s k) ≤ 8
+unfolding numberLine
+state-most s k h (inl l) = rw (ne-eqb k 65535 (λ z. omega arith)) (pair-most 2 2 s k h l)
+state-most s k h (inr e) = rw (eq-eqb k 65535 e) (omega (arith, length-append (spaced s) (dash ++ newline), spaced-most 2 s h))
+
+pub states-most : (s : ℕ) (ks : List ℕ) → s + length ks ≤ 1000 → ((i : ℕ) → i < length ks → (getD ks i 0 < 1000) ⊎ (getD ks i 0 ≡ 65535)) → length (numberLines s ks) ≤ 8 * length ks
+unfolding numberLines
+states-most s [] h b = omega arith
+states-most s (k ∷ ks) h b =
+    let rest = states-most (suc s) ks (omega arith) (λ i l. b (suc i) (omega arith)) in
+    omega (arith, length-append (numberLine s k) (numberLines (suc s) ks), state-most s k (omega arith) (b 0 (omega arith)), rest)

@@ -1,8 +1,11 @@
--- The text that `reduce` prints, and the refusal line of every program (document 01, "Three programs"): fields spaced by one
+-- The text that `reduce` prints, and the refusal line of every program (document 01, "Three programs"; document 02, "States nobody can
+-- reach"): fields spaced by one
 -- space, decimal numbers, each line ended by one newline byte. Bytes are ASCII.
 -- Assumes nothing.
 use Prim.Native.Nat.{ℕ, suc}
 use mathlib.Core.List.{List, [], _∷_, _++_}
+use lib.Dec.{eqb}
+use Rattle.meaning.specs.Pick.{pick}
 use Rattle.refusals.specs.Refusals.{Outcome, accepted, refused}
 use Rattle.text.specs.Decimal.{decimal}
 
@@ -11,6 +14,10 @@ space = 32 ∷ []
 
 abbrev pub newline : List ℕ
 newline = 10 ∷ []
+
+-- "-"
+abbrev pub dash : List ℕ
+dash = 45 ∷ []
 
 -- "refused "
 abbrev pub refusedWord : List ℕ
@@ -41,11 +48,15 @@ abbrev pub orRefusal : Outcome → List ℕ → List ℕ
 orRefusal (accepted vs) text = text
 orRefusal (refused number place) text = refusalLine number place
 
--- For each state from s on a line with its number and its new number; the list has the new numbers.
-unfoldable pub pairLines : ℕ → List ℕ → List ℕ
-pairLines s [] = []
-pairLines s (k ∷ ks) = pairLine s k ++ pairLines (suc s) ks
+-- A state's number and its new number on one line; `-` for the new number of a dropped state, which the class list has as 65,535.
+unfoldable pub numberLine : ℕ → ℕ → List ℕ
+numberLine s k = pick (eqb k 65535) (spaced s ++ (dash ++ newline)) (pairLine s k)
+
+-- For each state from s on its line; the list has the new numbers.
+unfoldable pub numberLines : ℕ → List ℕ → List ℕ
+numberLines s [] = []
+numberLines s (k ∷ ks) = numberLine s k ++ numberLines (suc s) ks
 
 -- What `reduce` prints: original states, reduced states, distinct colours and rounds on one line, then each state's line.
 unfoldable pub reducedText : ℕ → ℕ → ℕ → ℕ → List ℕ → List ℕ
-reducedText n states colours rounds numbers = fourLine n states colours rounds ++ pairLines 0 numbers
+reducedText n states colours rounds numbers = fourLine n states colours rounds ++ numberLines 0 numbers

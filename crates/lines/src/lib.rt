@@ -5,7 +5,7 @@ ghost use Prim.Native.Nat.{_+_, _*_, _<_, _≤_};
 ghost use lib.ListN.{length};
 ghost use Rattle.refusals.specs.Refusals.{numberOf};
 ghost use Rattle.text.specs.Decimal.{wrote};
-ghost use Rattle.lines.specs.Text.{pairLine, fourLine, refusalLine, pairLines, reducedText};
+ghost use Rattle.lines.specs.Text.{pairLine, fourLine, refusalLine, numberLine, numberLines, reducedText};
 
 // Two numbers on a line.
 fn put_two(room: &mut [u8], at: usize, a: u64, b: u64) -> usize
@@ -45,17 +45,29 @@ pub fn put_refusal(room: &mut [u8], at: usize, why: Refusal) -> usize
     )
 }
 
-// Each state's number and its new number, a line for each state.
-fn put_pairs(room: &mut [u8], at: usize, numbers: &[u16]) -> usize
+// A state's number and its new number on a line, `-` for a dropped state.
+fn put_state(room: &mut [u8], at: usize, s: u64, new: u16) -> usize
+    requires { ⌜ at + 42 ≤ length (now room) ⌝ }
+    ensures { λ r. ⌜ (now (room .exit) ≡ wrote (now (room .entry)) at (numberLine s new)) × (r ≡ at + length (numberLine s new))
+        × (r ≤ at + 42) ⌝ }
+{
+    if new == 65535 {
+        let behind = text::put_number(room, at, s, b' ');
+        return text::put(room, behind, b"-\n");
+    }
+    put_two(room, at, s, arrays::wide(new) as u64)
+}
+
+// The line of each state.
+fn put_states(room: &mut [u8], at: usize, numbers: &[u16]) -> usize
     requires { ⌜ at + 42 * length (now numbers) ≤ length (now room) ⌝ }
-    ensures { λ r. ⌜ (now (room .exit) ≡ wrote (now (room .entry)) at (pairLines 0 (now (numbers .entry))))
-        × (r ≡ at + length (pairLines 0 (now (numbers .entry)))) × (r ≤ at + 42 * length (now (numbers .entry))) ⌝ }
+    ensures { λ r. ⌜ (now (room .exit) ≡ wrote (now (room .entry)) at (numberLines 0 (now (numbers .entry))))
+        × (r ≡ at + length (numberLines 0 (now (numbers .entry)))) × (r ≤ at + 42 * length (now (numbers .entry))) ⌝ }
 {
     let mut end = at;
     let mut i = 0;
     while i < numbers.len() {
-        let new = arrays::wide(numbers[i]) as u64;
-        end = put_two(room, end, i as u64, new);
+        end = put_state(room, end, i as u64, numbers[i]);
         i += 1;
     }
     end
@@ -76,7 +88,7 @@ pub fn put_reduced(
         × (r ≤ 42 * length (now (classes .entry)) + 84) ⌝ }
 {
     let at = put_four(room, n as u64, states as u64, colours as u64, rounds as u64);
-    put_pairs(room, at, classes)
+    put_states(room, at, classes)
 }
 
 // Room for the largest file and one byte more, so that a longer file is seen to be longer.

@@ -25,7 +25,8 @@ pub record Classes : Type 0 where
   pub names : List ℕ
   pub rounds : ℕ
 
--- At the beginning all states of one colour form one class, named by the smallest of them.
+-- At the beginning all states of one colour that take part form one class, named by the smallest of them; a state that takes no part is in
+-- none, and its name is 65,535.
 unfoldable pub initial : Task → List ℕ
 initial T =
     tab (T .size)
@@ -88,6 +89,6 @@ named P t = eqb (at P t) t
 unfoldable pub classes : ℕ → List ℕ → ℕ
 classes n P = count (named P) n
 
--- The number of the class of s: classes are numbered 0 upward by ascending name.
+-- The number of the class of s: classes are numbered 0 upward by ascending name. It is asked of states in a class alone.
 unfoldable pub number : List ℕ → ℕ → ℕ
 number P s = count (named P) (at P s)

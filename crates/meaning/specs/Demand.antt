@@ -1,5 +1,5 @@
 -- The statements about the whole: of a filter in order with at most 256 states, the reduced filter is in order, has no more
--- states and edges, and traces whatever the filter traces, with the same colours. Assumes nothing.
+-- states than the start can reach and no more edges, and traces whatever the filter traces, with the same colours. Assumes nothing.
 use Prim.Native.Nat.{ℕ, zero, suc, _+_, _≤_, _<_}
 use mathlib.Core.Path.{_≡_, refl, sym, ap, _∙_, subst}
 use mathlib.Core.Bool.{Bool, true, false, _&&_, _||_}
@@ -14,7 +14,9 @@ use Rattle.meaning.specs.Cases.{or-left, cases-of, same², and-intro, an
 use Rattle.meaning.specs.SearchLaws.{count-max, count-none, least-ok, length-tab}
 use Rattle.meaning.specs.Classes.{chosen, named, classes, number}
 use Rattle.meaning.specs.ClassesLaws.{groups-apart}
-use Rattle.meaning.specs.Reduction.{Fair, Good, reduction-kept, reduction-calm, reduction-bound}
+use Rattle.meaning.specs.Reduction.{Fair, Good, good-live, reduction-kept, reduction-calm, reduction-bound}
+use Rattle.meaning.specs.Reach.{led}
+use Rattle.meaning.specs.ReachLaws.{Bounded, reached-first, reached-on, reached-lt, reached-led, led-reached}
 use Rattle.meaning.specs.Filter.{Edge, Filter, states, each, ascending, inside, inOrder}
 use Rattle.meaning.specs.Trace.{colour, edge, target, shown, stops}
 use Rattle.meaning.specs.Reduced.{live, task, has, mapped, class-edge, edge′, merged, reduce, reduced, nameOf, distinct}
@@ -117,13 +119,31 @@ merged-shorter F f P =
 -- ---- the reduction of an accepted filter
 
 module _ (F : Filter) (few : states F ≤ 256) (ok : inOrder F ≡ true) where
-  start-live : live F (F .start) ≡ true
-  unfolding live
-  start-live = refl
+  bounded : Bounded (edge F) (F .labels) (states F) (F .start)
+  bounded =
+      let f = fits F few ok in
+      record { begins = f .begins; label-lt = λ s y t e. f .within s y t e .1; target-lt = λ s y t e. f .within s y t e .2 }
 
-  target-live : (s y t : ℕ) → live F s ≡ true → edge F s y ≡ some t → live F t ≡ true
+  pub start-live : live F (F .start) ≡ true
   unfolding live
-  target-live s y t l e = refl
+  start-live = reached-first (edge F) (F .labels) (states F) (F .start) bounded
+
+  pub target-live : (s y t : ℕ) → live F s ≡ true → edge F s y ≡ some t → live F t ≡ true
+  unfolding live
+  target-live = reached-on (edge F) (F .labels) (states F) (F .start) bounded
+
+  pub live-lt : (s : ℕ) → live F s ≡ true → s < states F
+  unfolding live
+  live-lt = reached-lt (edge F) (F .labels) (states F) (F .start) bounded
+
+  -- a state takes part exactly where some sequence of observations leads to it from the start
+  pub live-led : (s : ℕ) → live F s ≡ true → (ys : List ℕ) × (led (edge F) (F .start) ys ≡ some s)
+  unfolding live
+  live-led = reached-led (edge F) (F .labels) (states F) (F .start) bounded
+
+  pub led-live : (ys : List ℕ) (s : ℕ) → led (edge F) (F .start) ys ≡ some s → live F s ≡ true
+  unfolding live
+  led-live = led-reached (edge F) (F .labels) (states F) (F .start) bounded
 
   pub fair : Fair (task F)
   fair = record {
@@ -144,10 +164,10 @@ module _ (F : Filter) (few : states F ≤ 256) (ok : inOrder F ≡ true) where
   pub live-in : (s : ℕ) → s < states F → live F s ≡ true → In (states F) (reduce F .names) s
   live-in s h l = record { state = h; seat = good .all s h l }
 
-  in-live : (s : ℕ) → In (states F) (reduce F .names) s → live F s ≡ true
-  in-live s h = cases-of (live F s) (λ q. q) (λ q. absurd (omega (arith, fair .small, good .out s (h .state) q, h .seat)))
+  pub in-live : (s : ℕ) → In (states F) (reduce F .names) s → live F s ≡ true
+  in-live s h = good-live (task F) fair (reduce F .names) good s (h .state) (h .seat)
 
-  onward : (s y t : ℕ) → In (states F) (reduce F .names) s → edge F s y ≡ some t → In (states F) (reduce F .names) t
+  pub onward : (s y t : ℕ) → In (states F) (reduce F .names) s → edge F s y ≡ some t → In (states F) (reduce F .names) t
   onward s y t h e = live-in t (fits F few ok .within s y t e .2) (target-live s y t (in-live s h) e)
 
   pub states-reduced : states (reduced F) ≡ classes (states F) (reduce F .names)
@@ -178,7 +198,7 @@ module _ (F : Filter) (few : states F ≤ 256) (ok : inOrder F ≡ true) where
   unfolding reduce distinct
   reduced-bound = let b = reduction-bound (task F) fair in (rw states-reduced (b .0), rw states-reduced (b .1), count-max (live F) (states F))
 
-  -- distinct colours are those that occur, whatever bounds them
+  -- distinct colours are those that states which take part have, whatever bounds them
   pub distinct-occurring : (k : ℕ) → ((s : ℕ) → s < states F → colour F s < k) → distinct F ≡ occurring (live F) (colour F) (states F) k
   unfolding distinct
   distinct-occurring k h = classes-occurring (task F) fair k h

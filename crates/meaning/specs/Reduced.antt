@@ -1,13 +1,15 @@
--- The reduction of a filter, and its reduced filter (document 01, "Reducing").
+-- The reduction of a filter, and its reduced filter (document 01, "Reducing"; document 02, "States nobody can reach").
 -- Assumes nothing.
 use Prim.Native.Nat.{ℕ, zero, suc}
 use mathlib.Core.Bool.{Bool, true, false, not, _&&_}
 use mathlib.Core.Option.{Option, none, some}
 use mathlib.Core.List.{List, [], _∷_, _++_}
 use lib.Dec.{eqb}
+use Rattle.meaning.specs.Pick.{pick}
 use Rattle.meaning.specs.Search.{any, least, tab, at}
 use Rattle.meaning.specs.Filter.{Edge, Filter, states}
 use Rattle.meaning.specs.Trace.{edge, colour}
+use Rattle.meaning.specs.Reach.{reached}
 use Rattle.meaning.specs.Classes.{Task, Classes, groups, reduction, named, classes, number, initial}
 
 -- Two edges lead to different classes. Where one of them is missing there is no difference.
@@ -21,9 +23,9 @@ apart P (some a) (some b) = not (eqb (at P a) (at P b))
 unfoldable pub conflict : (ℕ → ℕ → Option ℕ) → ℕ → List ℕ → ℕ → ℕ → Bool
 conflict next m P s t = any (λ y. apart P (next s y) (next t y)) m
 
--- All states take part, "whether the start leads to them or not".
+-- The states that take part: those that the start can reach.
 unfoldable pub live : Filter → ℕ → Bool
-live F s = true
+live F s = reached (edge F) (F .labels) (states F) (F .start) s
 
 -- How a class is grouped: from which states are members, which of them conflict, and how many states there are.
 abbrev pub Grouping : Type 0
@@ -96,10 +98,11 @@ merged F P = mergedOver (edge F) (colour F) (states F) (F .labels) (F .start) P
 unfoldable pub reduced : Filter → Filter
 reduced F = merged F (reduce F .names)
 
--- The class list: the new number of each state.
+-- The class list: the new number of each state, and 65,535 for a dropped one, which takes no part.
 unfoldable pub classList : Filter → List ℕ
-classList F = tab (states F) (number (reduce F .names))
+classList F = tab (states F) (λ s. pick (live F s) (number (reduce F .names) s) 65535)
 
--- Distinct colours: as many as the classes at the beginning. `distinct-occurring` says that they are the colours that occur.
+-- Distinct colours: as many as the classes at the beginning. `distinct-occurring` says that they are the colours of the states
+-- that take part.
 unfoldable pub distinct : Filter → ℕ
 distinct F = classes (states F) (initial (task F))

@@ -5,7 +5,7 @@ use mathlib.Core.Bool.{Bool, true, false, _&&_}
 use mathlib.Core.List.{List}
 use native.Mathlib.Omega.{arith}
 use lib.Dec.{eqb, ltb}
-use borrow.Author.Tests.{eqb-true, eq-eqb, ltb-true, ltb-false}
+use borrow.Author.Tests.{eqb-true, eq-eqb, lt-ltb, le-ltb, ltb-true, ltb-false}
 use Rattle.meaning.specs.Search.{least, count, at}
 use Rattle.meaning.specs.Cases.{cases-of, and-intro, and-left, and-right}
 use Rattle.meaning.specs.SearchLaws.{count-mono, least-ok, least-of, at-tab, count-max, count-step}
@@ -31,6 +31,15 @@ pub record Good (T : Task) (P : List ℕ) : Type 0 where
 pub record Kept (T : Task) (k : ℕ) (Q : Classes) : Type 0 where
   pub good : Good T (Q .names)
   pub bound : Q .rounds + k ≤ classes (T .size) (Q .names)
+
+-- a run makes the next round, or it is over
+pub run-on : (T : Task) (Q : Classes) → chosen T (Q .names) < T .size → (f : ℕ) → run (suc f) T Q ≡ run f T (cut T Q (chosen T (Q .names)))
+unfolding run
+run-on T Q h f = rw (lt-ltb (chosen T (Q .names)) (T .size) h, run)
+
+pub run-over : (T : Task) (Q : Classes) (f : ℕ) → T .size ≤ chosen T (Q .names) → run (suc f) T Q ≡ Q
+unfolding run
+run-over T Q f h = rw (le-ltb (chosen T (Q .names)) (T .size) h, run)
 
 module _ (T : Task) (fair : Fair T) where
   abbrev n : ℕ
@@ -121,11 +130,14 @@ module _ (T : Task) (fair : Fair T) where
       let k = g .all s h l in
       omega (arith, count-step (named P) (at P s) n k (eq-eqb (at P (at P s)) (at P s) (g .right .own s h k)))
 
+  -- a state that is in a class takes part
+  pub good-live : (P : List ℕ) → Good T P → (s : ℕ) → s < T .size → at P s < T .size → T .live s ≡ true
+  good-live P g s h l = cases-of (T .live s) (λ q. q) (λ q. absurd (omega (arith, fair .small, g .out s h q)))
+
   -- no more classes than states that take part
   pub classes-live : (P : List ℕ) → Good T P → classes (T .size) P ≤ count (T .live) (T .size)
   unfolding classes
-  classes-live P g = count-mono (named P) (T .live) n (λ t h e. cases-of (T .live t) (λ q. q)
-      (λ q. absurd (omega (arith, fair .small, g .out t h q, eqb-true (at P t) t e))))
+  classes-live P g = count-mono (named P) (T .live) n (λ t h e. good-live P g t h (omega (arith, h, eqb-true (at P t) t e)))
 
   -- ---- the run
 

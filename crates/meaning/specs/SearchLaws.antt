@@ -1,7 +1,7 @@
 -- Laws of the bounded searches. Assumes nothing.
 use Prim.Native.Nat.{ℕ, zero, suc, _+_, _≤_, _<_}
 use mathlib.Core.Path.{_≡_, refl, sym, ap, ap₂, _∙_}
-use mathlib.Core.Bool.{Bool, true, false, _||_}
+use mathlib.Core.Bool.{Bool, true, false, not, _&&_, _||_}
 use mathlib.Core.List.{List, [], _∷_, _++_}
 use native.Mathlib.Nat.{not-suc-le-zero}
 use native.Mathlib.Omega.{arith}
@@ -9,7 +9,7 @@ use lib.Dec.{eqb, ltb}
 use lib.ListN.{length, take, set}
 use lib.Seq.{take-suc-set}
 use native.Mathlib.Numerals.{add-one}
-use borrow.Author.Tests.{eqb-true, eqb-false, ltb-true, ltb-false}
+use borrow.Author.Tests.{eqb-true, eqb-false, ne-eqb, ltb-true, ltb-false}
 use Rattle.meaning.specs.Cases.{cases-of, no-both, or-right}
 use Rattle.meaning.specs.Search.{any, least, count, tab, at, bit}
 
@@ -188,3 +188,40 @@ at-take xs zero i h = absurd (omega arith)
 at-take [] (suc n) i h = refl
 at-take (x ∷ xs) (suc n) zero h = refl
 at-take (x ∷ xs) (suc n) (suc i) h = at-take xs n i (omega arith)
+
+-- where as many pass as there are, all do
+pub count-full : (p : ℕ → Bool) (n : ℕ) → count p n ≡ n → (i : ℕ) → i < n → p i ≡ true
+unfolding count
+count-full p zero e i h = absurd (not-suc-le-zero h)
+count-full p (suc n) e i h = cases-of (p n)
+    (λ q. cases-of (eqb i n)
+    (λ z. ap p (eqb-true i n z) ∙ q)
+    (λ z. count-full p n (let w = rw q at e in omega arith) i (omega (arith, h, eqb-false i n z))))
+    (λ q. absurd (let w = rw q at e in omega (arith, count-max p n)))
+
+-- ---- one number more
+
+bit-hit : (b a e : Bool) → e ≡ true → bit (b && e || a) ≡ bit a + bit (b && not a)
+bit-hit true true e h = rw h
+bit-hit true false e h = rw h
+bit-hit false true e h = refl
+bit-hit false false e h = refl
+
+bit-miss : (b a e : Bool) → e ≡ false → bit (b && e || a) ≡ bit a
+bit-miss true a e h = rw h
+bit-miss false a e h = refl
+
+-- x passes besides, where b says so
+module _ (b : Bool) (x : ℕ) (q : ℕ → Bool) where
+  off : (k : ℕ) → k ≤ x → count (λ c. b && eqb x c || q c) k ≡ count q k
+  unfolding count
+  off zero h = refl
+  off (suc k) h = ap₂ (λ i j. i + j) (off k (omega arith)) (bit-miss b (q k) (eqb x k) (ne-eqb x k (λ z. omega arith)))
+
+  pub count-or : (k : ℕ) → x < k → count (λ c. b && eqb x c || q c) k ≡ count q k + bit (b && not (q x))
+  unfolding count
+  count-or zero h = absurd (not-suc-le-zero h)
+  count-or (suc k) h = cases-of (eqb x k)
+      (λ e. let e′ = eqb-true x k e in
+      omega (arith, off k (omega arith), bit-hit b (q k) (eqb x k) e, ap (λ y. bit (b && not (q y))) e′))
+      (λ e. omega (arith, count-or k (omega (arith, eqb-false x k e)), bit-miss b (q k) (eqb x k) e))

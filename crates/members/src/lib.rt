@@ -5,15 +5,16 @@ ghost use lib.ListN.{length};
 ghost use Rattle.meaning.specs.Classes.{classes};
 ghost use Rattle.members.specs.Members.{Linkable, Linked};
 
-// For each state the next one behind it in its class; n where there is none.
-pub fn follow(names: &[u16; 256], n: usize, next: &mut [u16; 256])
-    requires { ⌜ Linkable (now names) (now next) n ⌝ }
+// For each state that takes part the next one behind it in its class; n where there is none. `live` lists these states.
+pub fn follow(names: &[u16; 256], live: &[u16], n: usize, next: &mut [u16; 256])
+    requires { ⌜ Linkable (now names) (now live) (now next) n ⌝ }
     ensures { λ _. ⌜ Linked (now (names .entry)) n (now (next .exit)) ⌝ }
 {
-    let mut nearest = arrays::filled(n as u16); // by name: the first member at s or behind it
-    let mut s = n;
-    while 0 < s {
-        s -= 1;
+    let mut nearest = arrays::filled(n as u16); // by name: the first of the members that are linked already
+    let mut j = live.len();
+    while 0 < j {
+        j -= 1;
+        let s = arrays::wide(live[j]);
         let c = arrays::wide(names[s]);
         next[s] = nearest[c];
         nearest[c] = s as u16;

@@ -127,7 +127,10 @@ module _ (T₀ T : Table) (names : List ℕ) (n : ℕ) (ok : Names n names) (s :
   unfolding seen
   gathering-own e =
       let own : at Q s ≡ s = at-take names n s h ∙ e in
-      let first : (t : ℕ) → t < s → at Q t ≡ s → ⊥ = λ t u v. omega (arith, name-low names n ok t (omega arith), at-take names n t (omega arith)) in
+      let few : n ≤ 256 = ok .few in
+      let first : (t : ℕ) → t < s → at Q t ≡ s → ⊥ = λ t u v.
+      let is = at-take names n t (omega (arith, u, h)) in
+      omega (arith, u, v, is, name-low names n ok t (omega (arith, u, h)) (λ z. omega (arith, z, v, is, h))) in
       rw (add-one s) (record {
         done = λ c y l o. cases-of (eqb c s)
             (λ z. let z′ = eqb-true c s z in
@@ -138,12 +141,25 @@ module _ (T₀ T : Table) (names : List ℕ) (n : ℕ) (ok : Names n names) (s :
         rows = r .rows;
       })
 
-  pub gathering-given : (T′ : Table) → (at names s ≡ s → ⊥) → Gave T T′ s (at names s) → Gathering T₀ Q T′ (s + 1)
+  -- a state in no class gives nothing
+  pub gathering-none : at names s ≡ 65535 → Gathering T₀ Q T (s + 1)
+  gathering-none e =
+      let few : n ≤ 256 = ok .few in
+      let none-there : at Q s ≡ 65535 = at-take names n s h ∙ e in
+      rw (add-one s) (record {
+        done = λ c y l o. cases-of (eqb c s)
+            (λ z. let z′ = eqb-true c s z in absurd (omega (arith, h, none-there, ap (at Q) z′, z′, o)))
+            (λ z. miss c y (omega (arith, l, eqb-false c s z)) o (λ i. omega (arith, l, h, i, none-there)));
+        later = λ c y l. r .later c y (omega arith);
+        rows = r .rows;
+      })
+
+  pub gathering-given : (T′ : Table) → (at names s ≡ s → ⊥) → (at names s ≡ 65535 → ⊥) → Gave T T′ s (at names s) → Gathering T₀ Q T′ (s + 1)
   unfolding seen given
-  gathering-given T′ e gave =
+  gathering-given T′ e some-class gave =
       let d = at names s in
       let name : at Q s ≡ d = at-take names n s h in
-      let below : d < s = omega (arith, name-low names n ok s h, e) in
+      let below : d < s = omega (arith, name-low names n ok s h some-class, e) in
       let at′ : (c y : ℕ) → look T′ c y ≡ given (look T) s d c y = λ c y. ap (λ (f : ℕ → ℕ → Option ℕ). f c y) (gave .edges) in
       let apart : (c y : ℕ) → (c ≡ d → ⊥) → look T′ c y ≡ look T c y = λ c y z. at′ c y ∙ rw (ne-eqb c d z) in
       rw (add-one s) (record {

@@ -31,13 +31,16 @@ abbrev pub mergedBy : Table → List ℕ → List ℕ → Reading → Filter
 mergedBy T colours names r =
     mergedOver (look T) (at colours) (r .states) (r .labels) (r .start) (take (r .states) names)
 
--- Table, colours and names fit a reading, and the rooms hold what is written.
+-- Table, colours and names fit a reading, the start is in a class and edges lead from classes to classes, and the rooms hold what is
+-- written.
 pub record Foldable (p : Profile) (T : Table) (colours names : List ℕ) (r : Reading) (answer list : ℕ) : Type 0 where
   pub usable : Usable p
   pub labels : r .labels ≤ 64
   pub begins : r .start < r .states
+  pub begins-in : at (take (r .states) names) (r .start) < r .states
   pub rows : Rows T (r .states)
   pub within : Within (look T) (r .states) (r .labels)
+  pub leads : (s y t : ℕ) → look T s y ≡ some t → at (take (r .states) names) s < r .states → at (take (r .states) names) t < r .states
   pub colours-long : length colours ≡ 256
   pub named : Names (r .states) names
   pub list-room : r .states ≤ list

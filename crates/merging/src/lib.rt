@@ -6,14 +6,15 @@ ghost use mathlib.Core.Option.{none};
 ghost use Prim.Native.Nat.{ℕ};
 ghost use lib.ListN.{length, take};
 ghost use Rattle.meaning.specs.Search.{tab};
-ghost use Rattle.meaning.specs.Classes.{classes, number};
+ghost use Rattle.meaning.specs.Classes.{classes};
 ghost use Rattle.layout.specs.Layout.{lengthOf, written};
 ghost use Rattle.refusals.specs.Refusals.{laid};
 ghost use Rattle.table.specs.Table.{table, look, Rows};
-ghost use Rattle.numbering.specs.Names.{Names};
+ghost use Rattle.numbering.specs.Names.{Names, newNumber};
 ghost use Rattle.merging.specs.Merged.{Gathered, mergedBy, Foldable};
 
-// Gives the state that names a class the edges of all its members: at each label that of the first member that has one.
+// Gives the state that names a class the edges of all its members: at each label that of the first member that has one. A
+// dropped state is in no class, and its edges go nowhere.
 fn gather(targets: &mut [u8], labels: &mut [u64], names: &[u16; 256], n: usize)
     requires { ⌜ Names n (now names) × Rows (table (now targets) (now labels)) n ⌝ }
     requires { ⌜ ((y : ℕ) → look (table (now targets) (now labels)) n y ≡ none) ⌝ }
@@ -24,7 +25,9 @@ fn gather(targets: &mut [u8], labels: &mut [u64], names: &[u16; 256], n: usize)
     while t < n {
         let c = arrays::wide(names[t]);
         if c != t {
-            table::give(targets, labels, t, c);
+            if c != 65535 {
+                table::give(targets, labels, t, c);
+            }
         }
         t += 1;
     }
@@ -36,7 +39,7 @@ pub struct Made {
     pub length: usize,
 }
 
-// Writes the file of the classes with these names, and the number of each state. The edges are gathered in the table itself, and
+// Writes the file of the classes with these names, and the new number of each state, 65,535 for one in no class. The edges are gathered in the table itself, and
 // the lists of names and colours are lent to each step, so that none is copied.
 pub fn merged(
     p: Profile,
@@ -53,7 +56,7 @@ pub fn merged(
     ensures answer { λ r. ⌜ now (answer .exit) ≡ laid (written p (mergedBy (table (now (targets .entry)) (now (labels .entry)))
         (now (colours .entry)) (now (names .entry)) reading)) (now (answer .entry)) ⌝ }
     ensures list { λ r. ⌜ now (list .exit)
-        ≡ laid (tab (reading .states) (number (take (reading .states) (now (names .entry))))) (now (list .entry)) ⌝ }
+        ≡ laid (tab (reading .states) (newNumber (take (reading .states) (now (names .entry))))) (now (list .entry)) ⌝ }
     ensures states { λ r. ⌜ r .states ≡ classes (reading .states) (take (reading .states) (now (names .entry))) ⌝ }
     ensures length { λ r. ⌜ r .length ≡ lengthOf p (mergedBy (table (now (targets .entry)) (now (labels .entry)))
         (now (colours .entry)) (now (names .entry)) reading) ⌝ }

@@ -1,18 +1,18 @@
-// Classes numbered 0 upward by ascending name: the number of each state, and the name and the colour of each class.
+// Classes numbered 0 upward by ascending name: the new number of each state, and the name and the colour of each class.
 ghost use mathlib.Core.Path.{_≡_};
 ghost use Prim.Native.Nat.{ℕ, _<_, _≤_};
 ghost use lib.ListN.{length, take};
 ghost use Rattle.meaning.specs.Search.{tab, at};
-ghost use Rattle.meaning.specs.Classes.{classes, number};
+ghost use Rattle.meaning.specs.Classes.{classes};
 ghost use Rattle.meaning.specs.Reduced.{nameOf};
 ghost use Rattle.refusals.specs.Refusals.{laid};
-ghost use Rattle.numbering.specs.Names.{Names};
+ghost use Rattle.numbering.specs.Names.{Names, newNumber};
 
-// Numbers the classes 0 upward by ascending name, writes the number of each state and the name of each class, and answers how
-// many classes there are.
+// Numbers the classes 0 upward by ascending name, writes the new number of each state and the name of each class, and answers how
+// many classes there are. A dropped state, which is in no class, gets 65,535.
 pub fn numbered(names: &[u16; 256], n: usize, list: &mut [u16], order: &mut [u16]) -> usize
     requires { ⌜ Names n (now names) × (n ≤ length (now list)) × (n ≤ length (now order)) ⌝ }
-    ensures list { λ r. ⌜ now (list .exit) ≡ laid (tab n (number (take n (now (names .entry))))) (now (list .entry)) ⌝ }
+    ensures list { λ r. ⌜ now (list .exit) ≡ laid (tab n (newNumber (take n (now (names .entry))))) (now (list .entry)) ⌝ }
     ensures count { λ r. ⌜ r ≡ classes n (take n (now (names .entry))) ⌝ }
     ensures names { λ r. ⌜ now (order .exit)
         ≡ laid (tab (classes n (take n (now (names .entry)))) (nameOf n (take n (now (names .entry))))) (now (order .entry)) ⌝ }
@@ -25,6 +25,8 @@ pub fn numbered(names: &[u16; 256], n: usize, list: &mut [u16], order: &mut [u16
             order[k] = name;
             list[s] = k as u16;
             k += 1;
+        } else if name == 65535 {
+            list[s] = name;
         } else {
             list[s] = list[arrays::wide(name)];
         }

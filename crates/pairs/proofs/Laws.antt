@@ -1,20 +1,21 @@
 -- Laws of the search for a conflicting pair. Assumes nothing.
-use Prim.Native.Nat.{ℕ, _≤_, _<_}
-use mathlib.Core.Path.{_≡_, refl, sym, ap, ap₂, _∙_}
+use Prim.Native.Nat.{ℕ, _+_, _≤_, _<_}
+use mathlib.Core.Path.{_≡_, refl, sym, ap, ap₂, subst, _∙_}
 use mathlib.Core.Bool.{Bool, true, false, _&&_}
 use mathlib.Core.List.{List}
 use native.Mathlib.Omega.{arith}
 use lib.Dec.{eqb, ltb}
-use lib.ListN.{take}
-use borrow.Author.Tests.{lt-ltb, le-ltb, eq-eqb, ne-eqb, ltb-true, ltb-false}
+use lib.ListN.{length, take}
+use borrow.Author.Tests.{lt-ltb, le-ltb, eq-eqb, ne-eqb, eqb-true, eqb-false, ltb-true, ltb-false}
 use Rattle.meaning.specs.Pick.{pick}
 use Rattle.meaning.specs.Cases.{cases-of, no-both, and-intro, and-left, and-right}
 use Rattle.meaning.specs.Search.{least, at}
-use Rattle.meaning.specs.SearchLaws.{any-intro, any-elim, any-cong, least-is, least-ok, least-none, least-empty, at-take}
+use Rattle.meaning.specs.SearchLaws.{any-intro, any-elim, any-cong, least-is, least-ok, least-max, least-none, least-empty, at-take}
+use Rattle.meaning.specs.ReachLaws.{among-at}
 use Rattle.meaning.specs.Classes.{parted, first}
 use Rattle.meaning.specs.ClassesLaws.{Named, pair, name-own}
 use Rattle.conflicts.proofs.Laws.{and-false, any-empty}
-use Rattle.members.specs.Members.{Heads}
+use Rattle.members.specs.Members.{Heads, Seated}
 use Rattle.members.proofs.Laws.{Standing, Hop, at-head, through}
 use Rattle.pairs.specs.Pairs.{against, opposed, foundOf}
 use Rattle.pairs.specs.declared.Found.{Found}
@@ -188,3 +189,44 @@ pub parted-own : (n : ℕ) (clashes : ℕ → ℕ → Bool) (P : List ℕ) → N
 parted-own n clashes P nm c h e = cases-of (parted n clashes P c)
     (λ q. absurd (e (sym (at-take P n c h) ∙ name-own n clashes (take n P) nm c h (sym (parted-front n clashes P c) ∙ q))))
     (λ q. q)
+
+-- ---- classes are tried in the order of a list
+
+-- none of the first j is parted
+abbrev pub Tried : ℕ → (ℕ → ℕ → Bool) → List ℕ → List ℕ → ℕ → Type 0
+Tried n clashes P live j = (i : ℕ) → i < j → i < length live → parted n clashes P (at live i) ≡ false
+
+pub tried-more : (n : ℕ) (clashes : ℕ → ℕ → Bool) (P live : List ℕ) (j c : ℕ) → Tried n clashes P live j → c ≡ at live j
+    → parted n clashes P c ≡ false → Tried n clashes P live (j + 1)
+tried-more n clashes P live j c tried is e i h l = cases-of (eqb i j)
+    (λ q. subst (λ (t : ℕ). parted n clashes P t ≡ false) (is ∙ ap (at live) (sym (eqb-true i j q))) e)
+    (λ q. tried i (omega (arith, h, eqb-false i j q)) l)
+
+module _ (n : ℕ) (clashes : ℕ → ℕ → Bool) (P live : List ℕ) (right : Named n (take n P)) (seated : Seated P live n) where
+  -- a class that is parted has its name in the list
+  parted-listed : (s : ℕ) → s < n → parted n clashes P s ≡ true → (i : ℕ) × (i < length live) × (at live i ≡ s)
+  parted-listed s h e = cases-of (eqb (at P s) s)
+      (λ q. among-at live s (seated .only s h (omega (arith, h, eqb-true (at P s) s q))))
+      (λ q. no-both e (parted-own n clashes P right s h (eqb-false _ _ q)))
+
+  pub tried-here : (j : ℕ) → Tried n clashes P live j → j < length live → parted n clashes P (at live j) ≡ true → at live j ≡ first n clashes P
+  unfolding first
+  tried-here j tried h e =
+      let low = seated .rises .below j h in
+      sym (least-is (parted n clashes P) n (at live j) low e (λ s l. cases-of (parted n clashes P s)
+      (λ q. let p = parted-listed s (omega (arith, l, low)) q in
+      cases-of (ltb (p .0) j)
+      (λ z. no-both q (subst (λ (t : ℕ). parted n clashes P t ≡ false) (p .2) (tried (p .0) (ltb-true _ _ z) (p .1))))
+      (λ z. cases-of (eqb j (p .0))
+      (λ w. absurd (omega (arith, l, p .2, ap (at live) (eqb-true j (p .0) w))))
+      (λ w. absurd (omega (arith, l, p .2, seated .rises .rising j (p .0) (omega (arith, ltb-false (p .0) j z, eqb-false j (p .0) w)) (p .1))))))
+      (λ q. q)))
+
+  pub tried-all : (j : ℕ) → Tried n clashes P live j → length live ≤ j → n ≡ first n clashes P
+  unfolding first
+  tried-all j tried h =
+      let none-parted = least-empty (parted n clashes P) n (λ s l. cases-of (parted n clashes P s)
+      (λ q. let p = parted-listed s l q in
+      no-both q (subst (λ (t : ℕ). parted n clashes P t ≡ false) (p .2) (tried (p .0) (omega (arith, h, p .1)) (p .1))))
+      (λ q. q)) in
+      omega (arith, none-parted, least-max (parted n clashes P) n)

@@ -4,7 +4,7 @@ ghost use lib.ListN.{take};
 ghost use Rattle.meaning.specs.Classes.{first};
 ghost use Rattle.meaning.specs.ClassesLaws.{Named};
 ghost use Rattle.table.specs.Table.{table};
-ghost use Rattle.members.specs.Members.{Heads, Searched};
+ghost use Rattle.members.specs.Members.{Heads, Searched, Seated};
 ghost use Rattle.conflicts.specs.Conflicts.{clash};
 ghost use Rattle.pairs.specs.Pairs.{foundOf};
 
@@ -48,20 +48,23 @@ fn pair_in(
     found
 }
 
-// The class with the smallest name that has a conflicting pair; n where there is none.
+// The class with the smallest name that has a conflicting pair; n where there is none. `live` lists the states that take part.
 pub fn first_parted(
     targets: &[u8],
     labels: &[u64],
     names: &[u16; 256],
     next: &[u16; 256],
+    live: &[u16],
     n: usize,
 ) -> usize
-    requires { ⌜ Searched (table (now targets) (now labels)) (now names) (now next) n × Named n (take n (now names)) ⌝ }
+    requires { ⌜ Searched (table (now targets) (now labels)) (now names) (now next) n × Named n (take n (now names))
+        × Seated (now names) (now live) n ⌝ }
     ensures { λ r. ⌜ r ≡ first n (clash (table (now (targets .entry)) (now (labels .entry))) (now (names .entry)))
         (now (names .entry)) ⌝ }
 {
-    let mut c: usize = 0;
-    while c < n {
+    let mut j = 0;
+    while j < live.len() {
+        let c = arrays::wide(live[j]);
         // A class is named by one of its members, so what is not its own name has no members to look at.
         if names[c] == c as u16 {
             // That there is a pair is enough here: a round takes the class, and grouping judges every pair of it by itself.
@@ -70,7 +73,7 @@ pub fn first_parted(
                 return c;
             }
         }
-        c += 1;
+        j += 1;
     }
-    c
+    n
 }

@@ -1,43 +1,100 @@
 -- Laws of names: at the beginning, and as a class is split. Assumes nothing.
 use Prim.Native.Nat.{ℕ, zero, suc, _+_, _≤_, _<_}
 use mathlib.Core.Path.{_≡_, refl, sym, ap, ap₂, subst, _∙_}
-use mathlib.Core.Bool.{Bool, true, false, _&&_}
+use mathlib.Core.Bool.{Bool, true, false, _&&_, _||_}
 use mathlib.Core.List.{List, [], _∷_}
+use native.Mathlib.Numerals.{add-one}
 use native.Mathlib.Omega.{arith}
 use lib.Dec.{eqb, ltb}
 use lib.ListN.{length, set, take, replicate, length-set, length-replicate, getD-replicate}
-use lib.Seq.{getD-set-same, getD-set-other}
+use lib.Seq.{getD-set-same, getD-set-other, take-suc, take-all}
 use borrow.Author.Tests.{eq-eqb, ne-eqb, ltb-true, ltb-false, eqb-true, eqb-false}
 use Rattle.meaning.specs.Cases.{cases-of, and-intro, and-left, and-right}
 use Rattle.meaning.specs.Search.{least, tab, at}
-use Rattle.meaning.specs.SearchLaws.{least-is, least-cong, tab-cong, fill, at-take}
+use Rattle.meaning.specs.SearchLaws.{least-is, least-cong, tab-cong, at-take}
+use Rattle.meaning.specs.Reach.{among}
+use Rattle.meaning.specs.ReachLaws.{among-at, at-among, among-snoc, or-false}
 use Rattle.meaning.specs.Classes.{groups, split}
-use Rattle.partition.specs.Partition.{twin, rounded}
+use Rattle.reach.specs.Walking.{Rises}
+use Rattle.partition.specs.Partition.{twin, beginning, rounded}
 
 -- ---- colours
 
-pub twin-here : (hues : List ℕ) (n s t : ℕ) → t < n → at hues t ≡ at hues s
-    → ((k : ℕ) → k < t → eqb (at hues k) (at hues s) ≡ false) → t ≡ twin hues n s
+-- none of the first i states of a list has this colour
+abbrev pub Unlike : List ℕ → List ℕ → ℕ → ℕ → Type 0
+Unlike hues live colour i = (k : ℕ) → k < i → at hues (at live k) ≡ colour → ⊥
+
+pub unlike-more : (hues live : List ℕ) (colour i : ℕ) → Unlike hues live colour i → (at hues (at live i) ≡ colour → ⊥)
+    → Unlike hues live colour (i + 1)
+unlike-more hues live colour i h z k l e = cases-of (eqb k i)
+    (λ q. z (sym (ap (λ (x : ℕ). at hues (at live x)) (eqb-true k i q)) ∙ e))
+    (λ q. h k (omega (arith, l, eqb-false k i q)) e)
+
+-- the state at place i is the first with the colour of the one at place j
+pub twin-here : (hues live : List ℕ) (n i j : ℕ) → Rises n live → i ≤ j → j < length live → at hues (at live i) ≡ at hues (at live j)
+    → Unlike hues live (at hues (at live j)) i → at live i ≡ twin (among live) hues n (at live j)
 unfolding twin
-twin-here hues n s t l e h = sym (least-is (λ k. eqb (at hues k) (at hues s)) n t l (eq-eqb _ _ e) h)
+twin-here hues live n i j r h l e unlike =
+    let here : i < length live = omega (arith, h, l) in
+    sym (least-is (λ t. among live t && eqb (at hues t) (at hues (at live j))) n (at live i) (r .below i here)
+    (and-intro (at-among live i here) (eq-eqb _ _ e)) (λ t b. cases-of (among live t && eqb (at hues t) (at hues (at live j)))
+    (λ q. let p = among-at live t (and-left (among live t) _ q) in
+    let same = eqb-true _ _ (and-right (among live t) (eqb (at hues t) (at hues (at live j))) q) in
+    absurd (cases-of (ltb (p .0) i)
+    (λ z. unlike (p .0) (ltb-true _ _ z) (ap (at hues) (p .2) ∙ same))
+    (λ z. cases-of (eqb i (p .0))
+    (λ w. omega (arith, b, p .2, ap (at live) (eqb-true i (p .0) w)))
+    (λ w. omega (arith, b, p .2, r .rising i (p .0) (omega (arith, ltb-false (p .0) i z, eqb-false i (p .0) w)) (p .1))))))
+    (λ q. q)))
 
--- ---- lists filled from the front
+-- ---- the names at the beginning
 
--- the first i entries of 256 are those of f
-pub record Front (f : ℕ → ℕ) (xs : List ℕ) (i : ℕ) : Type 0 where
-  pub long : length xs ≡ 256
-  pub front : take i xs ≡ tab i f
+-- the first j states of a list have their names, and no other state has one
+pub record Begun (live hues : List ℕ) (n : ℕ) (names : List ℕ) (j : ℕ) : Type 0 where
+  pub long : length names ≡ 256
+  pub said : (s : ℕ) → s < 256 → at names s ≡ elim (among (take j live) s) [ true ↦ twin (among live) hues n s | false ↦ 65535 ]
 
-pub front-none : (f : ℕ → ℕ) (xs : List ℕ) → length xs ≡ 256 → Front f xs 0
+pub begun-none : (live hues : List ℕ) (n : ℕ) (names : List ℕ) → names ≡ replicate 256 65535 → Begun live hues n names 0
+unfolding among
+begun-none live hues n names e = rw e record {
+  long = length-replicate {A = ℕ} 256 65535;
+  said = λ s h. getD-replicate 256 s 65535 0 h;
+}
+
+pub begun-more : (live hues : List ℕ) (n : ℕ) (names : List ℕ) (j s v : ℕ) → Begun live hues n names j → j < length live → s < 256
+    → s ≡ at live j → v ≡ twin (among live) hues n (at live j) → Begun live hues n (set names s v) (j + 1)
+begun-more live hues n names j s v r h l is e = record {
+  long = length-set names s v ∙ r .long;
+  said = λ t b.
+      let more : among (take (j + 1) live) t ≡ (among (take j live) t || eqb s t) =
+      ap (λ (xs : List ℕ). among xs t) (ap (λ (k : ℕ). take k live) (add-one j) ∙ take-suc live j 0 h) ∙ among-snoc (take j live) (at live j) t
+      ∙ ap (λ (x : ℕ). among (take j live) t || eqb x t) (sym is) in
+      cases-of (eqb s t)
+      (λ q. let same = eqb-true s t q in
+      let there : among (take (j + 1) live) t ≡ true = more ∙ rw q (or-true (among (take j live) t)) in
+      rw (there, ← same) (getD-set-same names s v 0 (omega (arith, l, r .long)) ∙ e ∙ ap (twin (among live) hues n) (sym is)))
+      (λ q. let kept : among (take (j + 1) live) t ≡ among (take j live) t = more ∙ rw q (or-false (among (take j live) t)) in
+      rw kept (getD-set-other names s t v 0 (λ u. eqb-false s t q (sym u)) ∙ r .said t b));
+}
+  where
+    or-true : (b : Bool) → (b || true) ≡ true
+    or-true true = refl
+    or-true false = refl
+
+-- a list's front, entry by entry
+front-by : (k : ℕ) (f : ℕ → ℕ) (xs : List ℕ) → k ≤ length xs → ((t : ℕ) → t < k → at xs t ≡ f t) → take k xs ≡ tab k f
 unfolding tab
-front-none f xs h = record { long = h; front = refl }
+front-by zero f xs l h = refl
+front-by (suc k) f [] l h = absurd (omega arith)
+front-by (suc k) f (x ∷ xs) l h =
+    ap₂ _∷_ (h 0 (omega arith)) (front-by k (λ i. f (suc i)) xs (omega arith) (λ t m. h (suc t) (omega arith)))
 
-pub front-more : (f : ℕ → ℕ) (xs : List ℕ) (i v : ℕ) → Front f xs i → i < 256 → v ≡ f i → Front f (set xs i v) (i + 1)
-front-more f xs i v r l e =
-    record { long = length-set xs i v ∙ r .long; front = fill xs i v f (omega (arith, r .long)) (r .front) e }
-
-pub front-all : (f : ℕ → ℕ) (xs : List ℕ) (i n : ℕ) → Front f xs i → i ≡ n → take n xs ≡ tab n f
-front-all f xs i n r e = subst (λ (k : ℕ). take k xs ≡ tab k f) e (r .front)
+pub begun-all : (live hues : List ℕ) (n : ℕ) (names : List ℕ) (j : ℕ) → Begun live hues n names j → length live ≤ j → n ≤ 256
+    → take n names ≡ tab n (beginning (among live) hues n)
+unfolding beginning
+begun-all live hues n names j r h l = front-by n (beginning (among live) hues n) names (omega (arith, l, r .long))
+    (λ s b. r .said s (omega (arith, b, l))
+    ∙ ap (λ (xs : List ℕ). elim (among xs s) as (λ x. ℕ) [ true ↦ twin (among live) hues n s | false ↦ 65535 ]) (take-all j live h))
 
 -- ---- a new name
 
@@ -195,14 +252,6 @@ module _ (n : ℕ) (P : List ℕ) (c : ℕ) (G : List ℕ) where
                 least = w .least;
               })
               (λ y. other d (at firsts d) (r .known d k) (eqb-false d g y))))
-
-  -- a list's front, entry by entry
-  front-by : (k : ℕ) (f : ℕ → ℕ) (xs : List ℕ) → k ≤ length xs → ((t : ℕ) → t < k → at xs t ≡ f t) → take k xs ≡ tab k f
-  unfolding tab
-  front-by zero f xs l h = refl
-  front-by (suc k) f [] l h = absurd (omega arith)
-  front-by (suc k) f (x ∷ xs) l h =
-      ap₂ _∷_ (h 0 (omega arith)) (front-by k (λ i. f (suc i)) xs (omega arith) (λ t m. h (suc t) (omega arith)))
 
   pub renamed-all : (names firsts : List ℕ) (s : ℕ) → Renamed names firsts s → n ≤ s → n ≤ 256
       → take n names ≡ tab n (renamed n P c G)

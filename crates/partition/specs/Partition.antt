@@ -2,7 +2,7 @@
 -- Assumes nothing.
 use Prim.Native.Nat.{ℕ}
 use mathlib.Core.Path.{_≡_}
-use mathlib.Core.Bool.{Bool}
+use mathlib.Core.Bool.{Bool, true, false, _&&_}
 use mathlib.Core.List.{List}
 use lib.Dec.{eqb}
 use lib.ListN.{length, take}
@@ -11,9 +11,13 @@ use Rattle.meaning.specs.Classes.{split}
 use Rattle.meaning.specs.Reduced.{Grouping}
 use Rattle.partition.specs.declared.Partition.{Partition}
 
--- The smallest state below n of the colour of s.
-unfoldable pub twin : List ℕ → ℕ → ℕ → ℕ
-twin hues n s = least (λ t. eqb (at hues t) (at hues s)) n
+-- The smallest state below n that takes part and has the colour of s.
+unfoldable pub twin : (ℕ → Bool) → List ℕ → ℕ → ℕ → ℕ
+twin live hues n s = least (λ t. live t && eqb (at hues t) (at hues s)) n
+
+-- The name of s at the beginning.
+unfoldable pub beginning : (ℕ → Bool) → List ℕ → ℕ → ℕ → ℕ
+beginning live hues n s = elim (live s) [ true ↦ twin live hues n s | false ↦ 65535 ]
 
 -- The names after a round at class c.
 unfoldable pub rounded : Grouping → ℕ → (ℕ → ℕ → Bool) → List ℕ → ℕ → List ℕ

@@ -2,44 +2,49 @@
 ghost use mathlib.Core.Path.{_≡_};
 ghost use Prim.Native.Nat.{ℕ, _+_, _<_, _≤_};
 ghost use lib.ListN.{length};
-ghost use Rattle.meaning.specs.Search.{tab};
+ghost use Rattle.meaning.specs.Search.{tab, at};
+ghost use Rattle.meaning.specs.Reach.{among};
 ghost use Rattle.meaning.specs.Classes.{groups};
 ghost use Rattle.table.specs.Table.{table};
 ghost use Rattle.conflicts.specs.Conflicts.{clash};
+ghost use Rattle.reach.specs.Walking.{Rises};
 ghost use Rattle.members.specs.Members.{Heads, Searched};
-ghost use Rattle.partition.specs.Partition.{twin, rounded, Holds};
+ghost use Rattle.partition.specs.Partition.{twin, beginning, rounded, Holds};
 
-// The name of each state's class, its smallest state, and the rounds made.
+// The name of each state's class, its smallest state, 65,535 for a state in none; and the rounds made.
 pub struct Partition {
     pub names: [u16; 256],
     pub rounds: u16,
 }
 
-// The smallest state of the colour of s.
-fn first_like(colours: &[u8; 256], s: usize) -> u16
-    requires { ⌜ (s < 256) × (length (now colours) ≡ 256) ⌝ }
-    ensures { λ r. ⌜ ((n : ℕ) → s < n → r ≡ twin (now (colours .entry)) n s) ⌝ }
+// The smallest state that takes part and has the colour of the state that the list has at place j.
+fn first_like(colours: &[u8; 256], live: &[u16], j: usize) -> u16
+    requires { ⌜ (j < length (now live)) × Rises 256 (now live) × (length (now colours) ≡ 256) ⌝ }
+    ensures { λ r. ⌜ ((n : ℕ) → Rises n (now (live .entry))
+        → r ≡ twin (among (now (live .entry))) (now (colours .entry)) n (at (now (live .entry)) j)) ⌝ }
 {
-    let mut t: usize = 0;
-    while t < s {
-        if colours[t] == colours[s] {
-            return t as u16;
+    let colour = colours[arrays::wide(live[j])];
+    let mut i = 0;
+    while i < j {
+        if colours[arrays::wide(live[i])] == colour {
+            return live[i];
         }
-        t += 1;
+        i += 1;
     }
-    t as u16
+    live[j]
 }
 
-// All states of one colour form one class.
-pub fn initial(colours: &[u8; 256], n: usize) -> Partition
-    requires { ⌜ (n ≤ 256) × (length (now colours) ≡ 256) ⌝ }
-    ensures { λ r. ⌜ Holds r n (tab n (twin (now (colours .entry)) n)) 0 ⌝ }
+// All states of one colour that take part form one class; `live` lists those that do. The others are in none.
+pub fn initial(colours: &[u8; 256], live: &[u16]) -> Partition
+    requires { ⌜ Rises 256 (now live) × (length (now colours) ≡ 256) ⌝ }
+    ensures { λ r. ⌜ ((n : ℕ) → n ≤ 256 → Rises n (now (live .entry))
+        → Holds r n (tab n (beginning (among (now (live .entry))) (now (colours .entry)) n)) 0) ⌝ }
 {
     let mut names = arrays::fresh();
-    let mut s = 0;
-    while s < n {
-        names[s] = first_like(colours, s);
-        s += 1;
+    let mut j = 0;
+    while j < live.len() {
+        names[arrays::wide(live[j])] = first_like(colours, live, j);
+        j += 1;
     }
     Partition { names, rounds: 0 }
 }

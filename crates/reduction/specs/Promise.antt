@@ -17,8 +17,8 @@ abbrev pub reduceLent : Profile → List ℕ → Rooms → List Lent
 reduceLent P file found =
     lent (written P (reduced (filterIn P file))) (found .answer) ∷ lent (classList (filterIn P file)) (found .classes) ∷ []
 
--- Accepted: the answer room begins with the reduced filter's file and the class list with the new number of each state, the
--- rest of both is as found. Refused: both are as found.
+-- Accepted: the answer room begins with the reduced filter's file and the class list with the new number of each state, 65,535 for a
+-- dropped one, the rest of both is as found. Refused: both are as found.
 abbrev pub ReducePromise : Profile → List ℕ → Rooms → Reduced → Rooms → Type 0
 ReducePromise P file found r left =
     Promise (reducedOutcome r) (reduceOf P file found) (reduceLent P file found) (both left)

@@ -15,7 +15,7 @@ pub enum Reduced {
     Refused(Refusal),
 }
 
-// Writes the file of the reduced filter, and the new number of each state.
+// Writes the file of the reduced filter, and the new number of each state, 65,535 for one that the start cannot reach.
 pub fn reduce(file: &[u8], answer: &mut [u8], classes: &mut [u16]) -> Reduced
     ensures { λ r. ⌜ ReducePromise large (now (file .entry)) (rooms (now (answer .entry)) (now (classes .entry)))
         r (rooms (now (answer .exit)) (now (classes .exit))) ⌝ }

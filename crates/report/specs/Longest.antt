@@ -3,16 +3,16 @@
 use Prim.Native.Nat.{ℕ, _≤_, _<_}
 use mathlib.Core.Path.{_≡_, refl, ap, _∙_}
 use mathlib.Core.Bool.{true}
+use mathlib.Core.Logic.{_⊎_, inl, inr}
 use mathlib.Core.List.{List}
 use native.Mathlib.Omega.{arith}
 use lib.ListN.{length, length-append}
 use Rattle.meaning.specs.Search.{at}
-use Rattle.meaning.specs.SearchLaws.{at-tab, length-tab}
+use Rattle.meaning.specs.Cases.{cases-of}
 use Rattle.meaning.specs.Filter.{Filter, states, inOrder}
-use Rattle.meaning.specs.Classes.{number}
-use Rattle.meaning.specs.Traced.{number-lt}
 use Rattle.meaning.specs.Reduced.{live, reduce, reduced, classList, distinct}
-use Rattle.meaning.specs.Demand.{good, live-in, states-reduced, reduced-bound}
+use Rattle.meaning.specs.Demand.{reduced-bound}
+use Rattle.meaning.specs.Dropped.{list-length, list-number, list-dropped}
 use Rattle.refusals.specs.Refusals.{Outcome, accepted, refused}
 use Rattle.layout.specs.Layout.{large}
 use Rattle.layout.specs.Contents.{filterIn}
@@ -20,36 +20,24 @@ use Rattle.layout.proofs.Bounds.{large-usable, states-high}
 use Rattle.files.specs.Files.{checkOf}
 use Rattle.files.specs.Written.{length-filter, checked-in-order}
 use Rattle.files.specs.Places.{Small, check-small}
-use Rattle.lines.specs.Text.{fourLine, pairLines, reducedText, orRefusal}
-use Rattle.lines.proofs.Laws.{refusal-most, four-most, pairs-most}
+use Rattle.lines.specs.Text.{fourLine, numberLines, reducedText, orRefusal}
+use Rattle.lines.proofs.Laws.{refusal-most, four-most, states-most}
 use Rattle.report.specs.Report.{reduceText}
 
 -- of a filter
 module _ (F : Filter) (few : states F ≤ 256) (ok : inOrder F ≡ true) where
-  length-list : length (classList F) ≡ states F
-  unfolding classList
-  length-list = length-tab (states F) _
-
-  entry : (i : ℕ) → i < states F → at (classList F) i < 1000
-  unfolding classList live
-  entry i h =
-      let b = reduced-bound F few ok in
-      omega (
-        arith,
-        at-tab (states F) (number (reduce F .names)) i h,
-        number-lt (states F) (reduce F .names) (good F few ok .right) i (live-in F few ok i h refl),
-        states-reduced F few ok,
-        b .1,
-        b .2,
-      )
+  entry : (i : ℕ) → i < states F → (at (classList F) i < 1000) ⊎ (at (classList F) i ≡ 65535)
+  entry i h = cases-of (live F i)
+      (λ q. let b = reduced-bound F few ok in inl (omega (arith, list-number F few ok i h q, few, b .1, b .2)))
+      (λ q. inr (list-dropped F few ok i h q))
 
   counts-most : length (reducedText (states F) (states (reduced F)) (distinct F) (reduce F .rounds) (classList F)) ≤ 2064
   unfolding reducedText
   counts-most =
       let b = reduced-bound F few ok in
       let first = four-most (states F) (states (reduced F)) (distinct F) (reduce F .rounds) (omega arith) (omega (arith, b .1, b .2)) (omega (arith, b .0, b .1, b .2)) (omega (arith, b .0, b .1, b .2)) in
-      let rest = pairs-most 0 (classList F) (omega (arith, length-list)) (λ i h. entry i (omega (arith, length-list))) in
-      omega (arith, length-append (fourLine (states F) (states (reduced F)) (distinct F) (reduce F .rounds)) (pairLines 0 (classList F)), first, rest, length-list)
+      let rest = states-most 0 (classList F) (omega (arith, list-length F)) (λ i h. entry i (omega (arith, list-length F))) in
+      omega (arith, length-append (fourLine (states F) (states (reduced F)) (distinct F) (reduce F .rounds)) (numberLines 0 (classList F)), first, rest, list-length F)
 
 pub reduce-longest : (file : List ℕ) → length (reduceText file) ≤ 2064
 unfolding reduceText

@@ -6,7 +6,7 @@ use mathlib.Core.List.{List, [], _∷_, _++_}
 use mathlib.Core.Option.{Option, none, some}
 use native.Mathlib.Omega.{arith}
 use native.Mathlib.Numerals.{add-one}
-use lib.Dec.{eqb}
+use lib.Dec.{eqb, ltb}
 use lib.ListN.{length, take}
 use borrow.Author.Tests.{le-ltb, lt-ltb, eqb-true, eqb-false}
 use Rattle.meaning.specs.Search.{least, tab, at}
@@ -16,16 +16,20 @@ use Rattle.meaning.specs.Classes.{round, chosen, begin, cut, run, reduction}
 use Rattle.meaning.specs.Cases.{cases-of, no-both}
 use Rattle.meaning.specs.ClassesLaws.{Named, groups-apart}
 use Rattle.meaning.specs.Reduced.{Grouping, apart, conflict, taskOver}
-use Rattle.meaning.specs.Reduction.{Fair, Good, Kept, initial-good, cut-kept, classes-some, classes-max}
+use Rattle.meaning.specs.Reduction.{Fair, Good, Kept, good-live, initial-good, cut-kept, classes-some, classes-max}
+use Rattle.meaning.specs.Reach.{among, reached}
+use Rattle.meaning.specs.ReachLaws.{among-at, at-among, Bounded, reached-first, reached-lt}
 use Rattle.table.specs.Table.{Table, look}
 use Rattle.conflicts.specs.Conflicts.{clash}
-use Rattle.conflicts.proofs.Laws.{clash-labels}
-use Rattle.members.specs.Members.{Heads, Linkable, Linked, Searched}
+use Rattle.conflicts.proofs.Laws.{and-false, clash-labels}
+use Rattle.reach.specs.Walking.{those}
+use Rattle.reach.proofs.Laws.{those-among, those-rise}
+use Rattle.members.specs.Members.{Heads, Seated, Linkable, Linked, Searched}
 use Rattle.members.proofs.Laws.{heads}
 use Rattle.pairs.proofs.Laws.{parted-front, parted-own}
-use Rattle.partition.specs.Partition.{twin, rounded, Holds}
+use Rattle.partition.specs.Partition.{twin, beginning, rounded, Holds}
 use Rattle.partition.specs.declared.Partition.{Partition}
-use Rattle.rounds.specs.Rounds.{taskOf, everyone, Reducible}
+use Rattle.rounds.specs.Rounds.{taskOf, Reducible, Somebody}
 
 -- where no label of a table is m or more, the task is that of m labels
 pub task-labels : (live : ℕ → Bool) (group : Grouping) (T : Table) (hues : List ℕ) (m n : ℕ) → m ≤ 64
@@ -40,6 +44,25 @@ task-labels live group T hues m n few below = ap
       group = λ mem clash. group mem clash n;
     })
     (clash-labels T m few below)
+
+-- ---- the states that are listed
+
+module _ (next : ℕ → ℕ → Option ℕ) (m n start : ℕ) (bounded : Bounded next m n start) where
+  abbrev reachable : List ℕ
+  reachable = those (reached next m n start) n
+
+  pub listed-reached : among reachable ≡ reached next m n start
+  listed-reached = fun-ext λ s. those-among (reached next m n start) n s ∙ cases-of (reached next m n start s)
+      (λ q. rw (q, lt-ltb s n (reached-lt next m n start bounded s q)))
+      (λ q. rw q (and-false (ltb s n)))
+
+  pub start-listed : Somebody reachable n
+  start-listed = record {
+    rises = those-rise (reached next m n start) n;
+    one =
+        let here = ap (λ (p : ℕ → Bool). p start) listed-reached ∙ reached-first next m n start bounded in
+        omega (arith, among-at reachable start here .1);
+  }
 
 -- ---- only the names of states count
 
@@ -103,9 +126,9 @@ both : {P P′ : List ℕ} {k k′ : ℕ} → P ≡ P′ → k ≡ k′
     → _≡_ {A = Classes} (record { names = P; rounds = k }) (record { names = P′; rounds = k′ })
 both p q = ap₂ {C = Classes} (λ (P : List ℕ) (k : ℕ). record { names = P; rounds = k }) p q
 
-module _ (T : Table) (hues : List ℕ) (n : ℕ) where
+module _ (live : List ℕ) (T : Table) (hues : List ℕ) (n : ℕ) where
   abbrev task : Task
-  task = taskOf everyone groups T hues n
+  task = taskOf (among live) groups T hues n
 
   abbrev now : Partition → Classes
   now Q = record { names = take n (Q .names); rounds = Q .rounds }
@@ -122,11 +145,11 @@ module _ (T : Table) (hues : List ℕ) (n : ℕ) where
   abbrev pub taken : Partition → ℕ
   taken Q = first n (clash T (Q .names)) (Q .names)
 
-  module _ (lent : Reducible T hues n) where
+  module _ (lent : Reducible T hues n) (some-live : Somebody live n) where
     fair : Fair task
     fair = record {
       small = omega (arith, lent .few);
-      somebody = (0, lent .somebody, refl);
+      somebody = (at live 0, some-live .rises .below 0 (some-live .one), at-among live 0 (some-live .one));
       proper = λ mem clashes. groups-apart mem clashes n;
     }
 
@@ -141,14 +164,14 @@ module _ (T : Table) (hues : List ℕ) (n : ℕ) where
         ap (λ (f : ℕ → ℕ → Bool). rounded groups n f P c) (clash-front T n (lent .inside) P)
         ∙ rounded-front n (clash T (take n P)) P c
 
-    initial-twins : initial task ≡ tab n (twin hues n)
-    unfolding initial twin
+    initial-twins : initial task ≡ tab n (beginning (among live) hues n)
+    unfolding initial beginning twin
     initial-twins = refl
 
-    pub classes-begin : (Q : Partition) → Holds Q n (tab n (twin hues n)) 0 → classes n (Q .names) ≡ classes n (initial task)
+    pub classes-begin : (Q : Partition) → Holds Q n (tab n (beginning (among live) hues n)) 0 → classes n (Q .names) ≡ classes n (initial task)
     classes-begin Q h = classes-front n (Q .names) ∙ ap (classes n) (h .names ∙ sym initial-twins)
 
-    pub running-begins : (Q : Partition) → Holds Q n (tab n (twin hues n)) 0 → Running Q
+    pub running-begins : (Q : Partition) → Holds Q n (tab n (beginning (among live) hues n)) 0 → Running Q
     unfolding reduction begin
     running-begins Q h = record {
       long = h .long;
@@ -173,14 +196,17 @@ module _ (T : Table) (hues : List ℕ) (n : ℕ) where
       pub running-named : Named n (take n (Q .names))
       running-named = r .kept .good .right
 
-      -- each state is in a class
-      pub running-linkable : (next : List ℕ) → length next ≡ 256 → Linkable (Q .names) next n
-      running-linkable next l = record {
-        few = lent .few;
-        names-long = r .long;
-        next-long = l;
-        low = λ s h. omega (arith, r .kept .good .all s h refl, at-take (Q .names) n s h, lent .few);
+      -- the states of the list, and no others, are in a class
+      pub running-seated : Seated (Q .names) live n
+      running-seated = record {
+        rises = some-live .rises;
+        all = λ j h. let l = some-live .rises .below j h in
+            omega (arith, r .kept .good .all (at live j) l (at-among live j h), at-take (Q .names) n (at live j) l);
+        only = λ s h l. good-live task fair (take n (Q .names)) (r .kept .good) s h (omega (arith, l, at-take (Q .names) n s h));
       }
+
+      pub running-linkable : (next : List ℕ) → length next ≡ 256 → Linkable (Q .names) live next n
+      running-linkable next l = record { few = lent .few; names-long = r .long; next-long = l; seated = running-seated }
 
       pub running-searched : (next : List ℕ) → Linked (Q .names) n next → Searched T (Q .names) next n
       running-searched next l = record { few = lent .few; rows = lent .rows; names-long = r .long; linked = l }

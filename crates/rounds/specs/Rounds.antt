@@ -2,7 +2,7 @@
 -- Assumes nothing.
 use Prim.Native.Nat.{ℕ, _≤_, _<_}
 use mathlib.Core.Path.{_≡_}
-use mathlib.Core.Bool.{Bool, true}
+use mathlib.Core.Bool.{Bool}
 use mathlib.Core.List.{List}
 use mathlib.Core.Option.{some}
 use lib.ListN.{length, take}
@@ -10,6 +10,7 @@ use Rattle.meaning.specs.Search.{at}
 use Rattle.meaning.specs.Classes.{Task, initial, classes, reduction}
 use Rattle.meaning.specs.Reduced.{Grouping, taskOver}
 use Rattle.table.specs.Table.{Table, look, Rows}
+use Rattle.reach.specs.Walking.{Rises}
 use Rattle.rounds.specs.declared.Ending.{Ending}
 
 -- What is reduced: n states of which some take part, with a way of grouping, edges in a table, which has no label past the 64,
@@ -17,17 +18,17 @@ use Rattle.rounds.specs.declared.Ending.{Ending}
 abbrev pub taskOf : (ℕ → Bool) → Grouping → Table → List ℕ → ℕ → Task
 taskOf live group T hues n = taskOver live group (look T) (at hues) 64 n
 
--- All states take part.
-abbrev pub everyone : ℕ → Bool
-everyone s = true
-
 -- What the rounds are lent: the edges of n states, none of which leads elsewhere, and their colours.
 pub record Reducible (T : Table) (hues : List ℕ) (n : ℕ) : Type 0 where
-  pub somebody : 0 < n
   pub few : n ≤ 256
   pub rows : Rows T n
   pub inside : (s y t : ℕ) → look T s y ≡ some t → t < n
   pub colours-long : length hues ≡ 256
+
+-- A list of states that take part: they ascend, and there is one.
+pub record Somebody (live : List ℕ) (n : ℕ) : Type 0 where
+  pub rises : Rises n live
+  pub one : 0 < length live
 
 -- The rounds end as the definition has it.
 pub record Settled (E : Ending) (T : Task) : Type 0 where

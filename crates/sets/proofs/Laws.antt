@@ -3,7 +3,7 @@ use Prim.Native.Nat.{ℕ, zero, suc, _+_, _*_, _-_, _/_, _%_, _^_, _≤_, _<_}
 use mathlib.Core.Path.{_≡_, refl, sym, ap, ap₂, _∙_}
 use mathlib.Core.Bool.{Bool, true, false, not, _&&_, _||_}
 use native.Mathlib.Nat.{pow-suc, pow-succ', div-one, div-div-eq-div-mul, div-eq-of-lt, mod-lt}
-use native.Mathlib.Decide.{ℕ-discrete}
+use native.Mathlib.Decide.{decLt, ℕ-discrete}
 use native.Mathlib.Omega.{arith}
 use lib.Bits.{bitAnd, bitOr, bitXor, and-shr, and-mod, or-shr, or-mod, xor-shr, xor-mod}
 use lib.Count.{trailingZeros, under}
@@ -148,3 +148,52 @@ or-swap true true = refl
 or-swap true false = refl
 or-swap false true = refl
 or-swap false false = refl
+
+-- ---- a set that is gone through, lowest number first
+
+-- `rest` is what is left of a set from a number on
+pub record From (set number rest : ℕ) : Type 0 where
+  pub gone : (j : ℕ) → j < number → holds rest j ≡ false
+  pub left : (j : ℕ) → number ≤ j → holds rest j ≡ holds set j
+
+pub from-all : (set : ℕ) → From set 0 set
+from-all set = record { gone = λ j l. absurd (omega arith); left = λ j l. refl }
+
+module _ {set number rest : ℕ} (r : From set number rest) where
+  pub from-above : (y : ℕ) → holds rest y ≡ true → number ≤ y
+  from-above y there = go (decLt y number)
+    where
+      go : Dec (y < number) → number ≤ y
+      go (yes h) = never there (r .gone y h)
+      go (no h) = omega arith
+
+  -- what is in the rest is in the set
+  pub from-holds : (y : ℕ) → holds rest y ≡ true → holds set y ≡ true
+  from-holds y there = sym (r .left y (from-above y there)) ∙ there
+
+  -- nothing of the set stands before the lowest number of the rest
+  pub from-gap : (y : ℕ) → Lowest rest y → (j : ℕ) → number ≤ j → j < y → holds set j ≡ false
+  from-gap y lowest j a b = sym (r .left j a) ∙ lowest .below j b
+
+  pub from-next : (y : ℕ) → Lowest rest y → {rest′ : ℕ} → ((j : ℕ) → holds rest′ j ≡ (holds rest j && not (eqb y j))) → From set (suc y) rest′
+  from-next y lowest less = record {
+    gone = λ j h. less j ∙ go j h (ℕ-discrete y j);
+    left = λ j h. less j
+        ∙ rw (ne-eqb y j (λ z. omega arith), r .left j (omega (arith, from-above y (lowest .there)))) (and-true (holds set j));
+  }
+    where
+      and-true : (b : Bool) → (b && true) ≡ b
+      and-true true = refl
+      and-true false = refl
+
+      go : (j : ℕ) → j < suc y → Dec (y ≡ j) → (holds rest j && not (eqb y j)) ≡ false
+      go j h (yes z) = rw (eq-eqb y j z) (and-false (holds rest j))
+        where
+          and-false : (b : Bool) → (b && false) ≡ false
+          and-false true = refl
+          and-false false = refl
+      go j h (no z) = rw (lowest .below j (omega arith))
+
+  -- nothing of the set stands behind where nothing is left
+  pub from-none : rest ≡ 0 → (j : ℕ) → number ≤ j → holds set j ≡ false
+  from-none e j a = sym (r .left j a) ∙ ap (λ (x : ℕ). holds x j) e ∙ holds-none j

@@ -25,7 +25,7 @@ use Rattle.layout.specs.Code.{Usable}
 use Rattle.layout.proofs.EdgeLists.{flat-append, widths-append, total-edges}
 use Rattle.layout.proofs.Bounds.{edges-high}
 use Rattle.sets.specs.Sets.{holds, Lowest}
-use Rattle.sets.proofs.Laws.{holds-none}
+use Rattle.sets.proofs.Laws.{From, from-all, from-above, from-gap, from-next, from-none}
 use Rattle.table.specs.Table.{Table, look}
 use Rattle.table.proofs.Laws.{look-has}
 use Rattle.storing.specs.Stored.{led, rowEdge, EdgesDrawn}
@@ -118,8 +118,7 @@ pub record RowUpTo (p : Profile) (next : ℕ → Option ℕ) (k set : ℕ) (s₀
   pub label : ℕ
   pub most : label ≤ 64
   pub edges : EdgesDrawn p s₀ at (row next k label) s pen
-  pub gone : (j : ℕ) → j < label → holds rest j ≡ false
-  pub left : (j : ℕ) → label ≤ j → holds rest j ≡ holds set j
+  pub from : From set label rest
 
 pub row-begun : (p : Profile) (next : ℕ → Option ℕ) (k set : ℕ) (s : List ℕ) (pen : Pen) → Ready pen →
     RowUpTo p next k set (inked s pen) (placeOf pen) s pen set
@@ -128,25 +127,13 @@ row-begun p next k set s pen h = record {
   label = 0;
   most = omega arith;
   edges = drawn-none s pen h;
-  gone = λ j l. absurd (omega arith);
-  left = λ j l. refl;
+  from = from-all set;
 }
 
 module _ {p : Profile} {next : ℕ → Option ℕ} {k set : ℕ} {s₀ : List ℕ} {at : ℕ} {s : List ℕ} {pen : Pen} {rest : ℕ}
     (r : RowUpTo p next k set s₀ at s pen rest) where
   pub row-near : Usable p → placeOf pen ≤ at + 1572864
   row-near ok = edges-near (row next k (r .label)) ok (r .edges) (omega (arith, row-few next k (r .label), r .most))
-
-  module _ (y : ℕ) (there : holds rest y ≡ true) where
-    row-above : r .label ≤ y
-    row-above = go (decLt y (r .label))
-      where
-        go : Dec (y < r .label) → r .label ≤ y
-        go (yes h) = no-both there (r .gone y h)
-        go (no h) = omega arith
-
-    pub row-holds : holds set y ≡ true
-    row-holds = sym (r .left y row-above) ∙ there
 
   module _ (only : (j : ℕ) → holds set j ≡ false → next j ≡ none) where
     pub row-more : (y t : ℕ) → y < 64 → Lowest rest y → next y ≡ some t → {s′ : List ℕ} {pen′ : Pen} {rest′ : ℕ}
@@ -157,30 +144,14 @@ module _ {p : Profile} {next : ℕ → Option ℕ} {k set : ℕ} {s₀ : List �
       label = suc y;
       most = omega arith;
       edges = rw is (edges-drawn p (row next k y) _ (rw same (r .edges)) d);
-      gone = λ j h. less j ∙ go j h (ℕ-discrete y j);
-      left = λ j h. less j ∙ rw (ne-eqb y j (λ z. omega arith), r .left j (omega (arith, above))) (and-true (holds set j));
+      from = from-next (r .from) y lowest less;
     }
       where
-        above : r .label ≤ y
-        above = row-above y (lowest .there)
-
-        and-true : (b : Bool) → (b && true) ≡ b
-        and-true true = refl
-        and-true false = refl
-
         same : row next k y ≡ row next k (r .label)
-        same = row-skip next k (r .label) y above (λ j a b. only j (sym (r .left j a) ∙ lowest .below j b))
-
-        go : (j : ℕ) → j < suc y → Dec (y ≡ j) → (holds rest j && not (eqb y j)) ≡ false
-        go j h (yes z) = rw (eq-eqb y j z) (and-false (holds rest j))
-          where
-            and-false : (b : Bool) → (b && false) ≡ false
-            and-false true = refl
-            and-false false = refl
-        go j h (no z) = rw (lowest .below j (omega arith))
+        same = row-skip next k (r .label) y (from-above (r .from) y (lowest .there)) (λ j a b. only j (from-gap (r .from) y lowest j a b))
 
     pub row-ended : rest ≡ 0 → EdgesDrawn p s₀ at (row next k 64) s pen
     row-ended e = rw all (r .edges)
       where
         all : row next k 64 ≡ row next k (r .label)
-        all = row-skip next k (r .label) 64 (r .most) (λ j a b. only j (sym (r .left j a) ∙ ap (λ (x : ℕ). holds x j) e ∙ holds-none j))
+        all = row-skip next k (r .label) 64 (r .most) (λ j a b. only j (from-none (r .from) e j a))

@@ -26,10 +26,12 @@ enum Way {
     To(u64),
 }
 
-/// Chains of these lengths, two or more each, on any of n states. The other states have no part in a chain, whatever
-/// their colour. One label has the edges of the chains, the others some that take no round more or less.
+/// Chains of these lengths, two or more each, on any of n states, one behind another, so that the start, which is the first
+/// state of the first, leads to all of them. Behind the last may come a tail that becomes one state; the other states have no
+/// part in this, whatever their colour. One label has the edges of the chains, the others some that take no round more or
+/// less.
 pub fn chains(random: &mut Random, n: u64, m: u64, lengths: &[u64]) -> Filter {
-    let (colours, next) = lines(random, n, lengths);
+    let (colours, next, start) = lines(random, n, lengths);
     let chained = random.between(0, m - 1);
     // Of the other labels' edges all are there, most, half or none.
     let missing = random.pick(&[None, Some(10), Some(2), Some(1)]);
@@ -58,7 +60,7 @@ pub fn chains(random: &mut Random, n: u64, m: u64, lengths: &[u64]) -> Filter {
     Filter {
         colours,
         m,
-        start: random.between(0, n - 1),
+        start,
         edges,
     }
 }
@@ -68,25 +70,35 @@ fn any_way(random: &mut Random, n: u64) -> Way {
     random.pick(&[Way::On, Way::Back, Way::To(state)])
 }
 
-/// The colour of each state, and its next in a chain.
-fn lines(random: &mut Random, n: u64, lengths: &[u64]) -> (Vec<u64>, Vec<Option<u64>>) {
+/// The colour of each state, its next in a chain, from the end of one to the next chain and in the tail, and the first state
+/// of all. A chain's last state is the only one of its colour that leads on, and the tail has a colour of its own, so that
+/// neither takes a round.
+fn lines(random: &mut Random, n: u64, lengths: &[u64]) -> (Vec<u64>, Vec<Option<u64>>, u64) {
     let palette = random.shuffled(64);
     let mut colours: Vec<u64> = (0..n).map(|_| random.between(0, 63)).collect();
     let mut next = vec![None; n as usize];
-    let mut free = in_some_order(random, n);
+    let order = in_some_order(random, n);
+    let mut begins = 0;
     for (&length, pair) in lengths.iter().zip(palette.chunks(2)) {
-        let line: Vec<u64> = free.drain(..length as usize).collect();
-        for two in line.windows(2) {
-            colours[two[0] as usize] = pair[0];
-            next[two[0] as usize] = Some(two[1]);
+        let ends = begins + length as usize;
+        for &state in &order[begins..ends] {
+            colours[state as usize] = pair[0];
         }
-        colours[line[line.len() - 1] as usize] = pair[1];
+        colours[order[ends - 1] as usize] = pair[1];
+        begins = ends;
     }
-    (colours, next)
+    let tail_ends = random.between(begins as u64, n) as usize;
+    for &state in &order[begins..tail_ends] {
+        colours[state as usize] = palette[2 * lengths.len()];
+    }
+    for two in order[..tail_ends].windows(2) {
+        next[two[0] as usize] = Some(two[1]);
+    }
+    (colours, next, order[0])
 }
 
 /// All states: ascending, descending or in disorder.
-fn in_some_order(random: &mut Random, n: u64) -> Vec<u64> {
+pub fn in_some_order(random: &mut Random, n: u64) -> Vec<u64> {
     match random.between(1, 4) {
         1 => (0..n).collect(),
         2 => (0..n).rev().collect(),

@@ -2,6 +2,7 @@
 
 use crate::file::{Edge, Filter};
 use crate::random::Random;
+use std::collections::BTreeMap;
 
 /// A filter of exactly these sizes.
 pub fn filter(random: &mut Random, n: u64, m: u64, e: u64) -> Filter {
@@ -24,6 +25,45 @@ pub fn filter(random: &mut Random, n: u64, m: u64, e: u64) -> Filter {
         m,
         start: random.between(0, n - 1),
         edges,
+    }
+}
+
+/// A filter of n states and m labels whose start, the first of `live`, leads to all of them and to no other state. Of the
+/// pairs of state and label that this does not take, one in `often` has an edge, which leads anywhere from a state that is
+/// not live.
+pub fn led(random: &mut Random, n: u64, m: u64, live: &[u64], often: u64) -> Filter {
+    let mut targets = BTreeMap::new();
+    for (i, &state) in live.iter().enumerate().skip(1) {
+        // Those before it have a label left: there is one pair at least for each of them, and one less is taken.
+        let mut pair = || (random.pick(&live[..i]), random.between(0, m - 1));
+        let mut from = pair();
+        while targets.contains_key(&from) {
+            from = pair();
+        }
+        targets.insert(from, state);
+    }
+    let all: Vec<u64> = (0..n).collect();
+    for source in 0..n {
+        let leads_to = if live.contains(&source) { live } else { &all };
+        for label in 0..m {
+            if random.once_in(often) {
+                let target = random.pick(leads_to);
+                targets.entry((source, label)).or_insert(target);
+            }
+        }
+    }
+    Filter {
+        colours: (0..n).map(|_| random.between(0, 63)).collect(),
+        m,
+        start: live[0],
+        edges: targets
+            .into_iter()
+            .map(|((source, label), target)| Edge {
+                source,
+                label,
+                target,
+            })
+            .collect(),
     }
 }
 

@@ -5,7 +5,8 @@ use crate::file::{write, Edge, Filter, Header};
 use crate::kinds::MANY_ROUNDS;
 use crate::make::chains::{chains, lengths};
 use crate::make::draft::Draft;
-use crate::make::filters::{damageable, filter, large};
+use crate::make::filters::{damageable, filter, large, led};
+use crate::make::leftovers;
 use crate::make::rooms::{any, Room};
 use crate::make::Family;
 use crate::random::Random;
@@ -86,6 +87,51 @@ pub const FAMILIES: &[Family<Case>] = &[
         make: room_for_the_reduced_alone,
     },
     Family {
+        name: "leftovers anywhere",
+        times: 200,
+        make: leftovers::anywhere,
+    },
+    Family {
+        name: "leftovers before, between and behind live states",
+        times: 50,
+        make: leftovers::before_between_and_behind,
+    },
+    Family {
+        name: "the first state left over",
+        times: 60,
+        make: leftovers::the_first_state,
+    },
+    Family {
+        name: "all but the start left over",
+        times: 10,
+        make: leftovers::all_but_the_start,
+    },
+    Family {
+        name: "leftovers that lead to live states",
+        times: 60,
+        make: leftovers::leading_to_the_live,
+    },
+    Family {
+        name: "leftovers with colours of their own",
+        times: 60,
+        make: leftovers::with_own_colours,
+    },
+    Family {
+        name: "leftovers that would keep live states apart",
+        times: 30,
+        make: leftovers::keeping_apart,
+    },
+    Family {
+        name: "nothing left over, far to the last state",
+        times: 3,
+        make: leftovers::far_to_the_last,
+    },
+    Family {
+        name: "room for the live states alone",
+        times: 20,
+        make: leftovers::room_for_the_live_alone,
+    },
+    Family {
         name: "reductions of faulty files",
         times: 5,
         make: of_faulty_files,
@@ -102,7 +148,7 @@ fn class_list(room: Room, entries: u64, random: &mut Random) -> Vec<u8> {
 }
 
 /// The file reduced in rooms of these kinds.
-fn in_rooms(file: Vec<u8>, answer: Room, list: Room, random: &mut Random) -> Case {
+pub fn in_rooms(file: Vec<u8>, answer: Room, list: Room, random: &mut Random) -> Case {
     // Without a header any number will do.
     let entries = Header::of(&file).map_or(3, |header| header.n);
     let answer_room = answer.found(file.len(), random);
@@ -123,7 +169,7 @@ fn short(random: &mut Random) -> Room {
     random.pick(&[Room::OneShort, Room::Empty])
 }
 
-fn with_enough_room(filters: &[Filter], random: &mut Random) -> Vec<Case> {
+pub fn with_enough_room(filters: &[Filter], random: &mut Random) -> Vec<Case> {
     filters
         .iter()
         .map(|filter| {
@@ -147,10 +193,23 @@ fn with_each_room(file: &[u8], random: &mut Random) -> Vec<Case> {
 /// A filter of these sizes with no more than so many colours.
 fn coloured(random: &mut Random, n: u64, m: u64, e: u64, colours: u64) -> Filter {
     let mut filter = filter(random, n, m, e);
+    coloured_with(&mut filter, colours, random);
+    filter
+}
+
+/// Gives it no more than so many colours.
+pub fn coloured_with(filter: &mut Filter, colours: u64, random: &mut Random) {
     let palette = &random.shuffled(64)[..colours as usize];
     for colour in &mut filter.colours {
         *colour = random.pick(palette);
     }
+}
+
+/// The same of a filter whose start leads to all n states, where one in `often` of the other edges is there.
+fn all_live(random: &mut Random, n: u64, m: u64, often: u64, colours: u64) -> Filter {
+    let states = random.shuffled(n);
+    let mut filter = led(random, n, m, &states, often);
+    coloured_with(&mut filter, colours, random);
     filter
 }
 
@@ -176,14 +235,16 @@ pub fn judged_in_the_midst(random: &mut Random) -> Vec<Case> {
     with_enough_room(&[parted_in_the_next_round(), never_parted()], random)
 }
 
-/// Few enough states and labels that every way to merge and to part comes by.
+/// Few enough states and labels that every way to merge and to part comes by. The start leads to some of them, and to all.
 pub fn small_filters(random: &mut Random) -> Vec<Case> {
     let mut filters = Vec::new();
     for n in 2..=6 {
         let m = random.between(1, 3);
         let e = random.between(1, n * m);
+        let often = random.between(1, 4);
         let colours = random.between(1, 3);
         filters.push(coloured(random, n, m, e, colours));
+        filters.push(all_live(random, n, m, often, colours));
     }
     with_enough_room(&filters, random)
 }
@@ -198,34 +259,39 @@ pub fn dense(random: &mut Random) -> Vec<Case> {
     with_enough_room(&filters, random)
 }
 
-/// No more than one edge a state on the average.
+/// No more than one edge a state on the average, of which the start leads to a few; and few more than it takes to lead to all.
 pub fn sparse(random: &mut Random) -> Vec<Case> {
     let n = random.between(2, 60);
     let m = random.between(1, 8);
     let colours = random.between(2, 8);
-    let filters = [n, n.div_ceil(3)].map(|e| coloured(random, n, m, e, colours));
+    let mut filters = [n, n.div_ceil(3)]
+        .map(|e| coloured(random, n, m, e, colours))
+        .to_vec();
+    filters.push(all_live(random, n, m, 5 * m, colours));
     with_enough_room(&filters, random)
 }
 
 pub fn one_colour(random: &mut Random) -> Vec<Case> {
     let n = random.between(1, 256);
     let m = random.between(1, 4);
-    let filters = [0, n, n * m].map(|e| coloured(random, n, m, e, 1));
+    let mut filters = [0, n, n * m].map(|e| coloured(random, n, m, e, 1)).to_vec();
+    filters.push(all_live(random, n, m, 4, 1));
     with_enough_room(&filters, random)
 }
 
-/// All different in up to 64 states, and all 64 in more.
+/// All different in up to 64 states, and all 64 in more; the start leads to all states, and to some.
 pub fn many_colours(random: &mut Random) -> Vec<Case> {
     let mut filters = Vec::new();
     for n in [random.between(1, 63), 64, random.between(65, 256)] {
         let m = random.between(1, 4);
         let e = random.between(0, n * m);
-        let mut filter = filter(random, n, m, e);
         let palette = random.shuffled(64);
-        for (colour, own) in filter.colours.iter_mut().zip(palette) {
-            *colour = own;
+        for mut filter in [all_live(random, n, m, 3, 1), filter(random, n, m, e)] {
+            for (colour, &own) in filter.colours.iter_mut().zip(&palette) {
+                *colour = own;
+            }
+            filters.push(filter);
         }
-        filters.push(filter);
     }
     with_enough_room(&filters, random)
 }
@@ -244,9 +310,18 @@ pub fn unreachable_parts(random: &mut Random) -> Vec<Case> {
     with_enough_room(&[filter], random)
 }
 
-/// Each state of a filter several times, each time with some of its edges, to any copy of their targets.
+/// A filter of which the start leads to some states, and one of which it leads to all, with each state several times.
 pub fn copied_states(random: &mut Random) -> Vec<Case> {
-    let first = any_coloured(random, 12);
+    let n = random.between(2, 12);
+    let m = random.between(1, 6);
+    let colours = random.between(1, 5);
+    let firsts = [any_coloured(random, 12), all_live(random, n, m, 2, colours)];
+    let filters = firsts.map(|first| copied(random, first));
+    with_enough_room(&filters, random)
+}
+
+/// Each copy of a state has some of its edges, to any copy of their targets.
+fn copied(random: &mut Random, first: Filter) -> Filter {
     let copies = random.between(2, 6);
     let missing = random.between(2, 9);
     let mut edges = Vec::new();
@@ -261,15 +336,14 @@ pub fn copied_states(random: &mut Random) -> Vec<Case> {
             }
         }
     }
-    let filter = Filter {
+    Filter {
         colours: first.colours.repeat(copies as usize),
         edges,
         ..first
-    };
-    with_enough_room(&[filter], random)
+    }
 }
 
-/// One chain, and several, in a few dozen states.
+/// One chain, and several, in a few dozen states; and each of them entered anywhere, so that what lies before is left over.
 pub fn short_chains(random: &mut Random) -> Vec<Case> {
     let mut filters = Vec::new();
     for count in [1, random.between(2, 5)] {
@@ -277,7 +351,15 @@ pub fn short_chains(random: &mut Random) -> Vec<Case> {
         let n = states + random.between(0, 6);
         let m = random.between(1, 6);
         let lengths = lengths(random, count, states);
-        filters.push(chains(random, n, m, &lengths));
+        let whole = chains(random, n, m, &lengths);
+        let start = random.between(0, n - 1);
+        filters.extend([
+            Filter {
+                start,
+                ..whole.clone()
+            },
+            whole,
+        ]);
     }
     with_enough_room(&filters, random)
 }

@@ -15,7 +15,7 @@ use Rattle.layout.specs.Layout.{written}
 use Rattle.layout.specs.Contents.{filterIn}
 use Rattle.files.specs.Tests.{ReadIs, reading-is}
 use Rattle.table.specs.Table.{Table, table}
-use Rattle.folding.proofs.Folding.{few-states, some-state, reduce-is, within, filter-is, foldable, list-is, counts-are}
+use Rattle.folding.proofs.Folding.{few-states, start-state, reduce-is, within, filter-is, foldable, list-is, counts-are}
 use Rattle.folding.proofs.fold.Statement.{statement}
 use Rattle.folding.proofs.fold.Tie as tie
 
@@ -46,14 +46,15 @@ settled-requires c κs =
     let a = start .args in
     let pre = start .pre in
     let is = is-read start in
-    let hues = c .before .before .before .colours-of in
-    record {
-      somebody = some-state (a .p) (pre .usable) (pre .labels≤6) (now (a .file)) (a .reading) is;
-      few = few-states (a .p) (pre .usable) (pre .labels≤6) (now (a .file)) (a .reading) is;
-      rows = pre .rows;
-      inside = λ s y t e. within (a .p) (pre .usable) (pre .labels≤6) (now (a .file)) (a .reading) is (tableOf start) (hues .result) (pre .edges) (hues .ensures .colours) s y t e .2;
-      colours-long = hues .ensures .long;
-    }
+    let hues = c .before .before .before .colours-of in (
+      record {
+        few = few-states (a .p) (pre .usable) (pre .labels≤6) (now (a .file)) (a .reading) is;
+        rows = pre .rows;
+        inside = λ s y t e. within (a .p) (pre .usable) (pre .labels≤6) (now (a .file)) (a .reading) is (tableOf start) (hues .result) (pre .edges) (hues .ensures .colours) s y t e .2;
+        colours-long = hues .ensures .long;
+      },
+      start-state (a .p) (pre .usable) (pre .labels≤6) (now (a .file)) (a .reading) is,
+    )
 
 merged-requires : tie.Need-merged-requires
 merged-requires c κs =

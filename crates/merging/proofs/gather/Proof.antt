@@ -9,7 +9,7 @@ use denote.Ref.{now}
 use lib.ListN.{take}
 use Rattle.table.specs.Table.{table, Rows, Gave}
 use Rattle.numbering.proofs.Laws.{name-low}
-use Rattle.merging.proofs.Gathering.{Gathering, gathering-begins, gathering-own, gathering-given, gathering-ends}
+use Rattle.merging.proofs.Gathering.{Gathering, gathering-begins, gathering-own, gathering-none, gathering-given, gathering-ends}
 use Rattle.merging.proofs.gather.Statement.{statement}
 use Rattle.merging.proofs.gather.Tie as tie
 
@@ -21,18 +21,19 @@ abbrev μ-loop : tie.MeasureT-loop
 
 give-requires : tie.Need-give-requires Inv-loop μ-loop
 give-requires c κs =
-    let loop = c .before .before .before .before .before .before .loop in
-    let start = c .before .before .before .before .before .before .before .before .before in
+    let wide = c .before .before .before .before in
+    let loop = wide .before .before .before .loop in
+    let start = wide .before .before .before .before .before .before in
     let same = loop .inv .1 .rows in
     let rows = start .pre .0 .1 in
-    let taken = c .before .before .before .before .before .loop-test .taken in
-    let low = name-low (now (start .args .names)) (start .args .n) (start .pre .0 .0) (loop .t) taken in
-    let is = c .before .before .before .wide .ensures in
+    let taken = wide .before .before .loop-test .taken in
+    let is = wide .wide .ensures in
+    let low = name-low (now (start .args .names)) (start .args .n) (start .pre .0 .0) (loop .t) taken (λ e. c .before .before .if2 .taken (is ∙ e)) in
     let there : (s : ℕ) → s ≤ loop .t → Rows (table (loop .targets) (loop .labels)) (s + 1) = λ s h. record {
       targets-long = omega (arith, same .targets-same, rows .targets-long, taken);
       labels-long = omega (arith, same .labels-same, rows .labels-long, taken);
     } in
-    ((λ e. omega (arith, c .before .before .if1 .taken)), (there _ (omega (arith, low, is)), there _ (omega (arith, low, is))))
+    ((λ e. omega (arith, c .before .before .before .if1 .taken)), (there _ (omega (arith, low, is)), there _ (omega (arith, low, is))))
 
 loop-again : tie.Need-loop-again Inv-loop μ-loop
 loop-again c =
@@ -43,9 +44,12 @@ loop-again c =
     let T = table (loop .targets) (loop .labels) in (
       omega arith,
       ⊎-elim
-          (λ v. rw (v .8, v .9)
-          (gathering-given _ T _ _ (start .pre .0 .0) _ (loop .inv .1) taken _ (λ e. v .0 .taken (is ∙ e)) (subst (Gave T _ (loop .t)) is (v .3 .ensures))))
-          (λ v. rw (v .1, v .2) (gathering-own _ T _ _ (start .pre .0 .0) _ (loop .inv .1) taken (sym is ∙ v .0 .left)))
+          (λ v. rw (v .9, v .10)
+          (gathering-given _ T _ _ (start .pre .0 .0) _ (loop .inv .1) taken _ (λ e. v .0 .taken (is ∙ e)) (λ e. v .1 .taken (is ∙ e))
+          (subst (Gave T _ (loop .t)) is (v .4 .ensures))))
+          (⊎-elim
+          (λ v. rw (v .2, v .3) (gathering-none _ T _ _ (start .pre .0 .0) _ (loop .inv .1) taken (sym is ∙ v .1 .left)))
+          (λ v. rw (v .1, v .2) (gathering-own _ T _ _ (start .pre .0 .0) _ (loop .inv .1) taken (sym is ∙ v .0 .left))))
           (c .if1 .came),
     )
 

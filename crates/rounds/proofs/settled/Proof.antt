@@ -1,96 +1,66 @@
--- `rounds::settled` meets its contract. The invariant: the run goes on from p as it went from the beginning. Assumes nothing.
-use Prim.Native.Nat.{_-_}
-use borrow.Author.Needs.{needs}
+-- `rounds::settled` meets its contract. Assumes nothing.
+use Prim.Native.Nat.{ℕ, _≤_}
+use mathlib.Core.Path.{_≡_, sym, ap, subst, _∙_}
+use mathlib.Core.Bool.{Bool}
+use mathlib.Core.List.{List}
 use native.Mathlib.Omega.{arith}
-use mathlib.Core.Path.{_≡_, sym, ap, _∙_}
-use lib.ListN.{length}
-use Rattle.meaning.specs.Classes.{Classes}
-use Rattle.table.specs.Table.{table}
-use Rattle.rounds.proofs.Run.{Running, running-begins, running-on, running-ends, classes-begin}
-use Rattle.rounds.proofs.Run.{running-low, running-named, running-linkable, running-searched, running-heads}
+use borrow.Author.Needs.{needs}
+use denote.Ref.{now}
+use lib.ListN.{length, take}
+use lib.Seq.{length-take-le}
+use Rattle.meaning.specs.Reach.{among, reached}
+use Rattle.meaning.specs.ReachLaws.{Bounded}
+use Rattle.meaning.specs.Classes.{groups}
+use Rattle.table.specs.Table.{Table, table, look}
+use Rattle.table.proofs.Laws.{look-there}
+use Rattle.rounds.specs.Rounds.{Somebody, taskOf, Settled}
+use Rattle.rounds.proofs.Run.{listed-reached, start-listed}
 use Rattle.rounds.proofs.settled.Statement.{statement}
 use Rattle.rounds.proofs.settled.Tie as tie
 
-abbrev Inv-loop : tie.InvT-loop
-Inv-loop targets labels colours n first p₀ next₀ p next = Running (table targets labels) colours n p × (length next ≡ 256)
+abbrev start₁ : tie.After-live → tie.Start
+start₁ c = c .before .before .before .before .before .before .before
 
-abbrev μ-loop : tie.MeasureT-loop
-μ-loop targets labels colours n first p₀ next₀ p next = n - p .rounds
+abbrev T : tie.Start → Table
+T c = table (now (c .args .targets)) (now (c .args .labels))
 
-loop-holds : tie.Need-loop-holds Inv-loop μ-loop
-loop-holds c =
-    (running-begins _ _ _ (c .before .before .before .before .pre) _ (c .before .initial .ensures), c .fresh .ensures .1)
+-- the list, and the states that it has
+abbrev listed : tie.After-live → List ℕ
+listed c = take (c .live .result) (c .live .last .1 .1 .1 .1 .1 .0)
 
-follow-requires : tie.Need-follow-requires Inv-loop μ-loop
-follow-requires c κs =
-    let loop = c .before .before .before in
-    running-linkable _ _ _ (loop .before .before .before .before .before .pre) _ (loop .loop .inv .0) _ (loop .loop .inv .1)
+bounded : (c : tie.Start) → Bounded (look (T c)) 64 (c .args .n) (c .args .start)
+bounded c = record { begins = c .pre .1; label-lt = λ s y t e. look-there (T c) s y t e .0; target-lt = c .pre .0 .inside }
 
-first-parted-requires : tie.Need-first-parted-requires Inv-loop μ-loop
-first-parted-requires c κs =
-    let loop = c .before .before .before .before .before .before .before in
-    let lent = loop .before .before .before .before .before .pre in
-    let run = loop .loop .inv .0 in
-    (running-searched _ _ _ lent _ run _ (c .before .before .before .follow .ensures), running-named _ _ _ lent _ run)
+list-room : tie.Need-array-share-prefix-list
+list-room c = let lists = c .live .ensures .0 in omega (arith, lists .few, start₁ c .pre .0 .few, lists .long)
 
-split-requires : tie.Need-split-requires Inv-loop μ-loop
-split-requires c κs =
-    let loop = c .before .before .before .before .before .before .before .before .before .before in
-    let lent = loop .before .before .before .before .before .pre in
-    let run = loop .loop .inv .0 in (
-      running-searched _ _ _ lent _ run _ (c .before .before .before .before .before .before .follow .ensures),
-      running-heads _ _ _ lent _ run _ (c .before .before .first-parted .ensures) (c .before .if1 .left),
-      omega (arith, running-low _ _ _ lent _ run, lent .few),
+list-long : (c : tie.After-live) → c .live .result ≡ length (listed c)
+list-long c = sym (length-take-le _ _ (list-room c))
+
+settle-requires : tie.Need-settle-requires
+settle-requires c κs =
+    let live = c .before .before in
+    let start = start₁ live in (
+      start .pre .0,
+      subst (λ (xs : List ℕ). Somebody xs (start .args .n)) (sym (live .live .ensures .0 .front)) (start-listed _ _ _ _ (bounded start)),
+      live .live .ensures .1,
     )
 
-loop-less : tie.Need-loop-less Inv-loop μ-loop
-loop-less c =
-    let loop = c .before .before .before .before .before .before .before .before .before .before .before in
-    let lent = loop .before .before .before .before .before .pre in
-    let run = loop .loop .inv .0 in
-    omega (arith, running-low _ _ _ lent _ run, c .split .ensures .rounds)
-
-loop-again : tie.Need-loop-again Inv-loop μ-loop
-loop-again c =
-    let loop = c .before .before .before .before .before .before .before .before .before .before .before in
-    let lent = loop .before .before .before .before .before .pre in
-    let run = loop .loop .inv .0 in
-    let chosen = c .before .before .before .first-parted .ensures in
-    let long = c .before .before .before .before .before .before .before .follow .ensures .long in
-    (running-on _ _ _ lent _ run _ _ chosen (c .before .before .if1 .left) (c .split .ensures), long)
-
-count-requires : tie.Need-count-requires Inv-loop μ-loop
-count-requires c κs =
-    let begun = c .before .before .before .before .before .before .before .before .before .before .before .before .before in
-    (begun .before .before .before .pre .few, begun .initial .ensures .long)
-
-returns : tie.Need-returns Inv-loop μ-loop
+returns : tie.Need-returns
 returns c =
-    let loop = c .before .before .before .before .before .before .before .before .before .before .before .before in
-    let lent = loop .before .before .before .before .before .pre in
-    let run = loop .loop .inv .0 in
-    let looked = c .before .before .before .before .first-parted .ensures in
-    let end = running-ends _ _ _ lent _ run _ looked (c .before .before .before .if1 .taken) in
-    record {
-      colours = c .count .ensures .0 ∙ classes-begin _ _ _ lent _ (loop .before .before .initial .ensures);
-      long = run .long;
-      names = sym (ap (λ (Q : Classes). Q .names) end);
-      rounds = sym (ap (λ (Q : Classes). Q .rounds) end);
-    }
+    let live = c .before .before .before in
+    let start = start₁ live in
+    subst (λ (p : ℕ → Bool). Settled (c .settle .result) (taskOf p groups (T start) (now (start .args .colours)) (start .args .n)))
+    (ap among (live .live .ensures .0 .front) ∙ listed-reached _ _ _ _ (bounded start)) (c .settle .ensures)
 
 pub settled-spec : {M : Type 1} → statement M
 settled-spec =
     tie.close
     (tie.spec
-    Inv-loop
-    μ-loop
     (λ c κs. search needs)
     (λ c κs. search needs)
-    loop-holds
-    follow-requires
-    first-parted-requires
-    split-requires
-    loop-less
-    loop-again
-    count-requires
+    (λ c κs. search needs)
+    list-room
+    (λ c. list-long (c .before))
+    settle-requires
     returns)

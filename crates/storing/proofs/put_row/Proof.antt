@@ -11,10 +11,11 @@ use Rattle.pen.specs.Runs.{inked, placeOf}
 use Rattle.pen.proofs.Pens.{drawn-none, drawn-length}
 use Rattle.meaning.specs.Search.{at}
 use Rattle.sets.specs.Sets.{holds}
+use Rattle.sets.proofs.Laws.{from-holds}
 use Rattle.table.specs.Table.{Table, table, look, Rows}
 use Rattle.table.proofs.Laws.{look-some, look-none}
 use Rattle.storing.specs.Stored.{led, rowEdge}
-use Rattle.storing.proofs.Laws.{led-none, led-some, RowUpTo, row-begun, row-near, row-holds, row-more, row-ended}
+use Rattle.storing.proofs.Laws.{led-none, led-some, RowUpTo, row-begun, row-near, row-more, row-ended}
 use Rattle.storing.proofs.put_row.Statement.{statement}
 use Rattle.storing.proofs.put_row.Tie as tie
 
@@ -55,7 +56,7 @@ found c =
     let y = c .before .lowest .result in
     let low = c .before .lowest .ensures in
     rw (← wide .wide .ensures)
-    (look-some (T (start₁ wide)) _ y (low .0) (row-holds (in-loop .before .loop .inv) y (low .1 .there)) ∙ ap some (sym (c .target .ensures .0)))
+    (look-some (T (start₁ wide)) _ y (low .0) (from-holds (in-loop .before .loop .inv .from) y (low .1 .there)) ∙ ap some (sym (c .target .ensures .0)))
 
 mul-rest : tie.Need-mul-rest Inv-loop μ-loop
 mul-rest c = let there = row-there c in omega arith
