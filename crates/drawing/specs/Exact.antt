@@ -19,11 +19,12 @@ use Rattle.meaning.specs.Filter.{each}
 use Rattle.files.specs.Files.{allBelow}
 use Rattle.layout.specs.declared.edge.Edge.{Edge}
 use Rattle.layout.specs.Code.{edgeOf}
+use Rattle.spelling.specs.Spelling.{matched}
+use Rattle.spelling.specs.Words.{common-of, Stands, behind-of, stands-of, stands-inside, matched-stands}
 use Rattle.drawing.specs.declared.Statement.{Statement}
 use Rattle.drawing.specs.declared.Statement.the-variants as statement
 use Rattle.drawing.specs.Profile.{opening, closing, stateLine, edgeLine, stateLines, edgeLines, drawn, shortEdge, InProfile, Begins, Longest}
-use Rattle.drawing.specs.Reader.{Read, drawing, outside, withState, withEdge, noState, behind, matched, statementAt, statementsFrom, readOf}
-use Rattle.drawing.specs.Words.{common-of, Stands, behind-of, stands-of, stands-inside, matched-stands}
+use Rattle.drawing.specs.Reader.{Read, drawing, outside, withState, withEdge, noState, behind, statementAt, statementsFrom, readOf}
 use Rattle.drawing.specs.Lines.{StatementIs, statement-is, state-longer, edge-longer, read-state, read-edge, read-closing}
 use Rattle.drawing.specs.Stuck.{Word, Stuck, StuckAt, stuck-as, stuck-longest, at-word, at-miss}
 use Rattle.drawing.specs.Places.{DrawnFrom, only-closing, is-closing, with-state, first-state, with-edge, first-edge, Lines, some-lines, at-statement}

@@ -1,8 +1,6 @@
 pub mod Profile
 pub mod Reader
--- Laws of words, numbers and statements in a text.
-pub mod Words
-pub mod Numbers
+-- Laws of statements in a text.
 pub mod Lines
 pub mod More
 -- How far a text goes along with a set of texts.

@@ -14,15 +14,16 @@ use Rattle.meaning.specs.Filter as meaning
 use Rattle.layout.specs.declared.edge.Edge.{Edge}
 use Rattle.layout.specs.Code.{edgeOf}
 use Rattle.text.specs.Decimal.{decimal}
+use Rattle.spelling.specs.Spelling.{matched, numberTo, numberAt}
+use Rattle.spelling.specs.Words.{Stands, stands-of, stands-inside, stands-then, stands-split, matched-inside, matched-stands, matched-of}
+use Rattle.spelling.specs.Numbers.{decimal-some, number-end, number-sound, number-read, number-none}
 use Rattle.drawing.specs.declared.Labelled.{Labelled}
 use Rattle.drawing.specs.declared.Labelled.the-variants as labelled
 use Rattle.drawing.specs.declared.Statement.{Statement}
 use Rattle.drawing.specs.declared.Statement.the-variants as statement
 use Rattle.drawing.specs.declared.Line.{Line}
 use Rattle.drawing.specs.Profile.{arrow, labelWord, lineEnd, closing, labelled, stateLine, edgeLine, shortEdge}
-use Rattle.drawing.specs.Reader.{matched, numberTo, numberAt, labelledAt, stateOf, edgeBetween, stateFrom, edgeFrom, targetAt, closingAt, statementAt, lineAt}
-use Rattle.drawing.specs.Words.{Stands, stands-of, stands-inside, stands-then, stands-split, matched-inside, matched-stands, matched-of}
-use Rattle.drawing.specs.Numbers.{decimal-some, number-end, number-sound, number-read, number-none}
+use Rattle.drawing.specs.Reader.{labelledAt, stateOf, edgeBetween, stateFrom, edgeFrom, targetAt, closingAt, statementAt, lineAt}
 
 abbrev pub lineTo : meaning.Edge → ℕ → Line
 lineTo e end = record { edge = record { source = e .source; label = e .label; target = e .target }; end = end }

@@ -16,14 +16,15 @@ use Rattle.meaning.specs.Cases.{impossible, cases-of, no-both, and-intro, and-l
 use Rattle.meaning.specs.Filter.{Edge, each}
 use Rattle.files.specs.Files.{allBelow}
 use Rattle.text.specs.Decimal.{decimal}
+use Rattle.spelling.specs.Spelling.{matched, numberAt}
+use Rattle.spelling.specs.Words.{Stands, matched-stands, same-byte}
+use Rattle.spelling.specs.Numbers.{number-none, number-sound}
 use Rattle.drawing.specs.declared.Labelled.{Labelled}
 use Rattle.drawing.specs.declared.Labelled.the-variants as labelled
 use Rattle.drawing.specs.declared.Statement.{Statement}
 use Rattle.drawing.specs.declared.Statement.the-variants as statement
 use Rattle.drawing.specs.Profile.{arrow, labelWord, lineEnd, closing, labelled, stateLine, edgeLine, stateLines, edgeLines, shortEdge, Begins}
-use Rattle.drawing.specs.Reader.{matched, numberAt, labelledAt, stateOf, edgeBetween, stateFrom, edgeFrom, targetAt, closingAt, statementAt, noState}
-use Rattle.drawing.specs.Words.{Stands, matched-stands, same-byte}
-use Rattle.drawing.specs.Numbers.{number-none, number-sound}
+use Rattle.drawing.specs.Reader.{labelledAt, stateOf, edgeBetween, stateFrom, edgeFrom, targetAt, closingAt, statementAt, noState}
 use Rattle.drawing.specs.Lines.{short-parts, short-edge}
 use Rattle.drawing.specs.Stuck.{Word, Numbered, Clean, a-word, a-number, some-word, some-number, StuckAt, at-as, at-word, at-miss, at-number, no-number, at-no-number, parted}
 

@@ -10,11 +10,11 @@ use lib.ListN.{length, take, drop, getD, length-append, take-append-drop}
 use lib.Seq.{take-at, take-append-add, drop-append-seam, length-take-le}
 use borrow.Author.Tests.{eqb-true, eqb-false, ltb-true}
 use Rattle.text.specs.Decimal.{decimal}
-use Rattle.drawing.specs.declared.Number.{Number}
+use Rattle.spelling.specs.declared.Number.{Number}
+use Rattle.spelling.specs.Spelling.{common, matched, digitOf, numberAt}
+use Rattle.spelling.specs.Words.{Stands, common-most, common-take, common-miss, same-byte}
+use Rattle.spelling.specs.Numbers.{decimal-some, number-sound, number-same}
 use Rattle.drawing.specs.Profile.{Begins, Longest}
-use Rattle.drawing.specs.Reader.{common, matched, digitOf, numberAt}
-use Rattle.drawing.specs.Words.{Stands, common-most, common-take, common-miss, same-byte}
-use Rattle.drawing.specs.Numbers.{decimal-some, number-sound, number-same}
 
 -- ---- sets of texts
 

@@ -25,10 +25,11 @@ use Rattle.files.specs.Files.{allBelow}
 use Rattle.files.specs.Tests.{Writable}
 use Rattle.files.specs.Written.{below-at, states≤256, count≤65536}
 use Rattle.text.specs.Decimal.{decimal}
+use Rattle.spelling.specs.Spelling.{numberAt}
+use Rattle.spelling.specs.Words.{behind-of, stands-of, stands-split}
+use Rattle.spelling.specs.Numbers.{Digits, one, two, three, digits-of, number-end, number-drawn}
 use Rattle.drawing.specs.Profile.{labelWord, lineEnd, closing, labelled, stateLine, edgeLine, stateLines, edgeLines, drawn, shortEdge, labelsOf}
-use Rattle.drawing.specs.Reader.{coloursOf, edgesOf, readOf, numberAt, lineAt}
-use Rattle.drawing.specs.Words.{behind-of, stands-of, stands-split}
-use Rattle.drawing.specs.Numbers.{Digits, one, two, three, digits-of, number-end, number-drawn}
+use Rattle.drawing.specs.Reader.{coloursOf, edgesOf, readOf, lineAt}
 use Rattle.drawing.specs.Lines.{line-drawn}
 use Rattle.drawing.specs.Exact.{read-sound}
 use Rattle.surveying.specs.declared.Survey.{Survey}

@@ -35,8 +35,8 @@ fn put_colours(p: Profile, room: &mut [u8], begun: Pen, text: &[u8], s: Survey)
     let mut at = 10;
     let mut i = 0;
     while i < n {
-        let state = drawing::number_at(text, at);
-        let colour = drawing::number_at(text, state.end + 8);
+        let state = spelling::number_at(text, at);
+        let colour = spelling::number_at(text, state.end + 8);
         pen = pen::push(room, pen, p.colour, colour.value as u64);
         at = colour.end + 3;
         i += 1;
@@ -65,7 +65,7 @@ fn put_all(p: Profile, part: &mut [u8], bit: usize, text: &[u8], s: Survey)
     let mut at = s.begin;
     let mut i = 0;
     while i < e {
-        let line = drawing::line_at(text, at);
+        let line = statements::line_at(text, at);
         pen = layout::edge::push(p, part, pen, line.edge);
         at = line.end;
         i += 1;

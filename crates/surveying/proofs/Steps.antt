@@ -13,10 +13,11 @@ use Rattle.meaning.specs.Cases.{cases-of}
 use Rattle.meaning.specs.Filter as meaning
 use Rattle.layout.specs.declared.edge.Edge.{Edge}
 use Rattle.layout.specs.Code.{edgeOf}
+use Rattle.spelling.specs.Spelling.{matched}
+use Rattle.spelling.specs.Words.{stands-inside, matched-inside}
 use Rattle.drawing.specs.Profile.{opening, larger, stateLine, stateLines, labelsOf}
 use Rattle.drawing.specs.declared.Statement.the-variants as statement
-use Rattle.drawing.specs.Reader.{Read, drawing, outside, matched, behind, statementAt, statementsFrom, readOf, noState}
-use Rattle.drawing.specs.Words.{stands-inside, matched-inside}
+use Rattle.drawing.specs.Reader.{Read, drawing, outside, behind, statementAt, statementsFrom, readOf, noState}
 use Rattle.drawing.specs.Lines.{short-parts, statement-state, statement-edge, state-longer, edge-longer}
 use Rattle.surveying.specs.declared.Survey.{Survey}
 use Rattle.surveying.specs.declared.Surveyed.the-variants as answer

@@ -12,8 +12,9 @@ ghost use lib.Dec.{eqb};
 ghost use lib.ListN.{length};
 ghost use Rattle.meaning.specs.Pick.{pick};
 ghost use Rattle.edges.specs.Walk.{faultOf};
+ghost use Rattle.spelling.specs.Spelling.{matched};
 ghost use Rattle.drawing.specs.Profile.{larger, opening};
-ghost use Rattle.drawing.specs.Reader.{matched, readOf};
+ghost use Rattle.drawing.specs.Reader.{readOf};
 ghost use Rattle.surveying.specs.Surveys.{foundOf, surveyed, bytes, Countable, Judged, JudgedOn};
 
 // How many states and edges there are, the largest colour plus one, where the edges begin, m, and the number that the next state
@@ -156,8 +157,8 @@ fn outside(i: usize) -> Verdict
 pub fn survey_of(text: &[u8]) -> Surveyed
     ensures { λ r. ⌜ foundOf r ≡ surveyed (readOf (now (text .entry))) ⌝ }
 {
-    if !drawing::stands(text, 0, b"digraph {\n") {
-        return Surveyed::Outside(drawing::matched(text, 0, b"digraph {\n"));
+    if !spelling::stands(text, 0, b"digraph {\n") {
+        return Surveyed::Outside(spelling::matched(text, 0, b"digraph {\n"));
     }
     statements(text)
 }
@@ -171,7 +172,7 @@ fn statements(text: &[u8]) -> Surveyed
     let mut s = Survey::begin();
     let mut testing = Testing::begin();
     loop {
-        let statement = drawing::statement_at(text, at, s.next);
+        let statement = statements::statement_at(text, at, s.next);
         match statement {
             Statement::State(colour, end) => {
                 s = s.with_state(colour, end);

@@ -6,11 +6,12 @@ use borrow.Author.Needs.{needs}
 use borrow.Author.Tests.{eq-eqb, ne-eqb, le-ltb}
 use denote.Ref.{now}
 use lib.ListN.{length, drop}
+use Rattle.spelling.specs.Spelling.{matched}
+use Rattle.spelling.specs.Words.{common-most, matched-inside}
+use Rattle.spelling.specs.Numbers.{number-inside}
+use Rattle.spelling.proofs.Told.{missing, found}
 use Rattle.drawing.specs.Profile.{labelWord, lineEnd}
-use Rattle.drawing.specs.Reader.{matched, labelledAt}
-use Rattle.drawing.specs.Words.{common-most, matched-inside}
-use Rattle.drawing.specs.Numbers.{number-inside}
-use Rattle.drawing.proofs.Told.{missing, found}
+use Rattle.drawing.specs.Reader.{labelledAt}
 use Rattle.drawing.proofs.label_at.Statement.{statement}
 use Rattle.drawing.proofs.label_at.Tie as tie
 

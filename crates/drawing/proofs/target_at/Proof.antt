@@ -6,10 +6,11 @@ use borrow.Author.Needs.{needs}
 use borrow.Author.Tests.{eq-eqb, ne-eqb}
 use denote.Ref.{now}
 use lib.ListN.{length, drop}
+use Rattle.spelling.specs.Spelling.{matched}
+use Rattle.spelling.specs.Words.{common-most, matched-inside}
+use Rattle.spelling.proofs.Told.{missing, found}
 use Rattle.drawing.specs.Profile.{arrow}
-use Rattle.drawing.specs.Reader.{matched, targetAt}
-use Rattle.drawing.specs.Words.{common-most, matched-inside}
-use Rattle.drawing.proofs.Told.{missing, found}
+use Rattle.drawing.specs.Reader.{targetAt}
 use Rattle.drawing.proofs.target_at.Statement.{statement}
 use Rattle.drawing.proofs.target_at.Tie as tie
 

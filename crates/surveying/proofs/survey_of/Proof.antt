@@ -4,10 +4,11 @@ use native.Mathlib.Omega.{arith}
 use borrow.Author.Needs.{needs}
 use denote.Ref.{now}
 use lib.ListN.{drop}
+use Rattle.spelling.specs.Spelling.{matched}
+use Rattle.spelling.specs.Words.{common-most}
+use Rattle.spelling.proofs.Told.{missing, found}
 use Rattle.drawing.specs.Profile.{opening}
-use Rattle.drawing.specs.Reader.{matched, readOf}
-use Rattle.drawing.specs.Words.{common-most}
-use Rattle.drawing.proofs.Told.{missing, found}
+use Rattle.drawing.specs.Reader.{readOf}
 use Rattle.surveying.proofs.survey_of.Statement.{statement}
 use Rattle.surveying.proofs.survey_of.Tie as tie
 

@@ -1,4 +1,0 @@
-pub mod Told
-pub mod Matching
-pub mod Digits
-pub mod Targets
