@@ -3,7 +3,7 @@ use Prim.Native.Nat.{ℕ, _*_, _≤_, _<_}
 use mathlib.Core.Path.{_≡_, sym, ap, ap₂, _∙_, subst}
 use mathlib.Core.Bool.{Bool, true, false}
 use mathlib.Core.List.{List, [], _∷_}
-use mathlib.Core.Option.{Option, some}
+use mathlib.Core.Option.{Option}
 use native.Mathlib.Nat.{le-trans}
 use native.Mathlib.Omega.{arith}
 use lib.ListN.{length, take}
@@ -19,7 +19,7 @@ use Rattle.meaning.specs.ReachLaws.{reached-labels}
 use Rattle.meaning.specs.Filter.{Filter, states, inOrder}
 use Rattle.meaning.specs.Trace.{edge, colour}
 use Rattle.meaning.specs.Classes.{Task, Classes, initial, groups, reduction, classes, number}
-use Rattle.meaning.specs.Traced.{Fits, opt}
+use Rattle.meaning.specs.Traced.{opt}
 use Rattle.meaning.specs.Demand.{fits, start-live, target-live, good}
 use Rattle.meaning.specs.Reduced.{live, taskOver, task, reduce, mergedOver, merged, reduced, classList, distinct}
 use Rattle.layout.specs.declared.Profile.{Profile}

@@ -1,12 +1,12 @@
 -- What the dropped states, which the start cannot reach, have to do with a filter and its reduction: nothing. A filter's ride is that
 -- of its reached part, the class list tells the dropped states, and a reduced filter has none. Assumes nothing.
 use Prim.Native.Nat.{ℕ, _≤_, _<_}
-use mathlib.Core.Path.{_≡_, refl, sym, ap, ap₂, _∙_, subst}
-use mathlib.Core.Bool.{Bool, true, false}
+use mathlib.Core.Path.{_≡_, refl, sym, ap, ap₂, _∙_}
+use mathlib.Core.Bool.{true, false}
 use mathlib.Core.Option.{Option, none, some}
 use mathlib.Core.List.{List, [], _∷_}
 use native.Mathlib.Omega.{arith}
-use lib.Dec.{eqb, ltb}
+use lib.Dec.{ltb}
 use lib.ListN.{length}
 use borrow.Author.Tests.{eq-eqb, ne-eqb, lt-ltb, ltb-true}
 use Rattle.meaning.specs.Pick.{pick}
@@ -16,12 +16,12 @@ use Rattle.meaning.specs.SearchLaws.{least-empty, at-tab, length-tab, co
 use Rattle.meaning.specs.TraceLaws.{ridden-on, ridden-stop, halted-on, halted-stop}
 use Rattle.meaning.specs.Reach.{led}
 use Rattle.meaning.specs.ReachLaws.{led-on, led-some}
-use Rattle.meaning.specs.Filter.{Filter, states, each, inOrder}
+use Rattle.meaning.specs.Filter.{Filter, states, inOrder}
 use Rattle.meaning.specs.Trace.{colour, edge, later, ridden, halted, shown, stops}
 use Rattle.meaning.specs.Classes.{chosen, first, parted, named, classes, number}
 use Rattle.meaning.specs.ClassesLaws.{pair}
 use Rattle.meaning.specs.Reduction.{Good}
-use Rattle.meaning.specs.Reduced.{live, task, conflict, edge′, listed, nameOf, merged, reduce, reduced, classList}
+use Rattle.meaning.specs.Reduced.{live, task, conflict, edge′, nameOf, merged, reduce, reduced, classList}
 use Rattle.meaning.specs.Listing.{find-listed, find-each, each-listed}
 use Rattle.meaning.specs.Traced.{In, Fits, opt, number-lt, name-of, name-is, colour-kept, edge-kept}
 use Rattle.meaning.specs.Demand.{fits, start-live, target-live, live-lt, live-led, led-live, good, calm-end, live-in, in-live, onward}

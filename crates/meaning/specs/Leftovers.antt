@@ -9,15 +9,15 @@ use native.Mathlib.Omega.{arith}
 use lib.Dec.{eqb, ltb}
 use borrow.Author.Tests.{eqb-true, ltb-true, ltb-false}
 use Rattle.meaning.specs.Pick.{pick}
-use Rattle.meaning.specs.Search.{any, least, tab, at}
+use Rattle.meaning.specs.Search.{least, tab, at}
 use Rattle.meaning.specs.Cases.{cases-of, no-both, and-left}
 use Rattle.meaning.specs.SearchLaws.{any-cong, least-cong, least-ok, least-max, tab-cong}
-use Rattle.meaning.specs.Filter.{Edge, Filter, states, inOrder}
+use Rattle.meaning.specs.Filter.{Filter, states, inOrder}
 use Rattle.meaning.specs.Trace.{edge, colour}
 use Rattle.meaning.specs.Reach.{led}
 use Rattle.meaning.specs.ReachLaws.{led-on, led-some}
 use Rattle.meaning.specs.Classes.{Task, Classes, initial, parted, first, free, groups, split, round, chosen, begin, cut, run, reduction, classes, number}
-use Rattle.meaning.specs.Reduction.{Fair, Good, run-on, run-over, good-live, initial-good, round-good, parted-chosen, reduction-kept}
+use Rattle.meaning.specs.Reduction.{Fair, Good, run-on, run-over, good-live, initial-good, round-good, parted-chosen}
 use Rattle.meaning.specs.Reduced.{apart, conflict, live, taskOver, task, reduce, nameOf, has, mapped, class-edge, edge′, listed, mergedOver, merged, reduced, classList, distinct}
 use Rattle.meaning.specs.Listing.{listed-cong}
 use Rattle.meaning.specs.Traced.{opt, name-is}

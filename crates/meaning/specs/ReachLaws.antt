@@ -1,7 +1,7 @@
 -- A code is reached exactly where some sequence of labels leads to it from the first code. Assumes nothing.
 use Prim.Native.Nat.{ℕ, zero, suc, _+_, _≤_, _<_}
 use mathlib.Core.Path.{_≡_, refl, sym, ap, _∙_, subst, fun-ext}
-use mathlib.Core.Bool.{Bool, true, false, not, _||_}
+use mathlib.Core.Bool.{Bool, true, false, _||_}
 use mathlib.Core.Logic.{_⊎_, inl, inr, ⊎-elim}
 use mathlib.Core.Option.{Option, none, some}
 use mathlib.Core.List.{List, [], _∷_, _++_}
@@ -11,7 +11,7 @@ use lib.Dec.{eqb, ltb}
 use lib.ListN.{length, length-append, List·getD-append}
 use borrow.Author.Tests.{eqb-true, eqb-false, eq-eqb, lt-ltb, le-ltb, ltb-true, ltb-false}
 use Rattle.meaning.specs.Pick.{pick}
-use Rattle.meaning.specs.Search.{count, bit, at}
+use Rattle.meaning.specs.Search.{count, at}
 use Rattle.meaning.specs.Cases.{cases-of, no-both, impossible, or-left, or-right}
 use Rattle.meaning.specs.SearchLaws.{count-cong, count-full, count-max, count-none, count-or}
 use Rattle.meaning.specs.Reach.{among, meet, visited, walked, walk, reached, led}

@@ -9,7 +9,7 @@ use lib.Dec.{eqb, ltb}
 use lib.ListN.{length, set, take, replicate, length-set, length-replicate, getD-replicate}
 use lib.Seq.{getD-set-same, getD-set-other, take-suc, take-all}
 use borrow.Author.Tests.{eq-eqb, ne-eqb, ltb-true, ltb-false, eqb-true, eqb-false}
-use Rattle.meaning.specs.Cases.{cases-of, and-intro, and-left, and-right}
+use Rattle.meaning.specs.Cases.{cases-of, and-intro, and-left, and-right, or-right}
 use Rattle.meaning.specs.Search.{least, tab, at}
 use Rattle.meaning.specs.SearchLaws.{least-is, least-cong, tab-cong, at-take}
 use Rattle.meaning.specs.Reach.{among}
@@ -71,15 +71,11 @@ begun-more live hues n names j s v r h l is e = record {
       ∙ ap (λ (x : ℕ). among (take j live) t || eqb x t) (sym is) in
       cases-of (eqb s t)
       (λ q. let same = eqb-true s t q in
-      let there : among (take (j + 1) live) t ≡ true = more ∙ rw q (or-true (among (take j live) t)) in
+      let there : among (take (j + 1) live) t ≡ true = more ∙ rw q (or-right (among (take j live) t) refl) in
       rw (there, ← same) (getD-set-same names s v 0 (omega (arith, l, r .long)) ∙ e ∙ ap (twin (among live) hues n) (sym is)))
       (λ q. let kept : among (take (j + 1) live) t ≡ among (take j live) t = more ∙ rw q (or-false (among (take j live) t)) in
       rw kept (getD-set-other names s t v 0 (λ u. eqb-false s t q (sym u)) ∙ r .said t b));
 }
-  where
-    or-true : (b : Bool) → (b || true) ≡ true
-    or-true true = refl
-    or-true false = refl
 
 -- a list's front, entry by entry
 front-by : (k : ℕ) (f : ℕ → ℕ) (xs : List ℕ) → k ≤ length xs → ((t : ℕ) → t < k → at xs t ≡ f t) → take k xs ≡ tab k f

@@ -1,7 +1,7 @@
 -- Laws of the walk: a code met, a label or a state further; and of the states that are listed. Assumes nothing.
 use Prim.Native.Nat.{ℕ, zero, suc, _+_, _≤_, _<_}
 use mathlib.Core.Path.{_≡_, refl, sym, ap, ap₂, _∙_, subst}
-use mathlib.Core.Bool.{Bool, true, false, not, _&&_, _||_}
+use mathlib.Core.Bool.{Bool, true, false, not, _&&_}
 use mathlib.Core.List.{List, [], _∷_, _++_, append-nil}
 use mathlib.Core.Option.{Option, none, some}
 use native.Mathlib.Nat.{not-suc-le-zero}
@@ -9,10 +9,10 @@ use native.Mathlib.Numerals.{add-one}
 use native.Mathlib.Omega.{arith}
 use lib.Dec.{eqb, ltb}
 use lib.ListN.{length, set, take, replicate, length-set, length-append, length-replicate, getD-replicate, List·getD-append}
-use lib.Seq.{getD-at, getD-set-same, getD-set-other, length-take-le, take-set-le, take-suc-set}
+use lib.Seq.{getD-at, getD-set-same, getD-set-other, length-take-le, take-suc-set}
 use borrow.Author.Tests.{eq-eqb, ne-eqb, eqb-true, eqb-false, ltb-true, ltb-false, lt-ltb, le-ltb}
 use Rattle.meaning.specs.Pick.{pick}
-use Rattle.meaning.specs.Cases.{cases-of, no-both}
+use Rattle.meaning.specs.Cases.{cases-of, no-both, or-right}
 use Rattle.meaning.specs.Search.{count, at}
 use Rattle.meaning.specs.SearchLaws.{at-take, count-none}
 use Rattle.meaning.specs.Reach.{among, meet, visited, walked, walk, reached}
@@ -83,7 +83,7 @@ module _ (codes numbers : List ℕ) (met c : ℕ) (q : Queue codes numbers met) 
         numbered = λ d l. rw front (cases-of (eqb c d)
             (λ z. let same = eqb-true c d z in
             let mark : at numbers′ d ≡ met = rw (← same) (getD-set-same numbers c met 0 (omega (arith, h, q .numbers-long))) in
-            let there : among (all ++ (c ∷ [])) d ≡ true = among-snoc all c d ∙ rw z (or-true (among all d)) in
+            let there : among (all ++ (c ∷ [])) d ≡ true = among-snoc all c d ∙ rw z (or-right (among all d) refl) in
             ne-eqb (at numbers′ d) 65535 (λ u. omega (arith, met-room, mark, u)) ∙ sym (ap not there))
             (λ z. let same : among (all ++ (c ∷ [])) d ≡ among all d = among-snoc all c d ∙ rw z (or-false (among all d)) in
             ap (λ (x : ℕ). eqb x 65535) (getD-set-other numbers c d met 0 (λ u. eqb-false c d z (sym u))) ∙ q .numbered d l
@@ -91,10 +91,6 @@ module _ (codes numbers : List ℕ) (met c : ℕ) (q : Queue codes numbers met) 
       };
       says = front ∙ sym more;
     }
-      where
-        or-true : (b : Bool) → (b || true) ≡ true
-        or-true true = refl
-        or-true false = refl
 
 -- ---- a state is visited
 
@@ -231,16 +227,12 @@ module _ (p : ℕ → Bool) where
   those-among zero s = rw (le-ltb s 0 (omega arith))
   those-among (suc n) s = cases-of (p n)
       (λ e. rw e (among-snoc (those p n) n s ∙ cases-of (eqb n s)
-      (λ z. let same : n ≡ s = eqb-true n s z in rw (z, ← same, lt-ltb n (suc n) (omega arith), e) (or-true (among (those p n) n)))
+      (λ z. let same : n ≡ s = eqb-true n s z in rw (z, ← same, lt-ltb n (suc n) (omega arith), e) (or-right (among (those p n) n) refl))
       (λ z. let other = eqb-false n s z in rw z (or-false (among (those p n) s) ∙ those-among n s ∙ ap (λ (b : Bool). b && p s) (below n s other)))))
       (λ e. rw e (ap (λ (xs : List ℕ). among xs s) (append-nil (those p n)) ∙ those-among n s ∙ cases-of (eqb n s)
       (λ z. let same : n ≡ s = eqb-true n s z in rw (← same, e) (and-false (ltb n n) ∙ sym (and-false (ltb n (suc n)))))
       (λ z. ap (λ (b : Bool). b && p s) (below n s (eqb-false n s z)))))
     where
-      or-true : (b : Bool) → (b || true) ≡ true
-      or-true true = refl
-      or-true false = refl
-
       and-false : (b : Bool) → (b && false) ≡ false
       and-false true = refl
       and-false false = refl

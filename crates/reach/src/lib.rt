@@ -5,7 +5,7 @@ ghost use mathlib.Core.Bool.{not};
 ghost use mathlib.Core.Option.{some};
 ghost use Prim.Native.Nat.{_+_, _<_, _≤_};
 ghost use lib.Dec.{eqb};
-ghost use lib.ListN.{length, take, replicate};
+ghost use lib.ListN.{length, take};
 ghost use Rattle.meaning.specs.Search.{at};
 ghost use Rattle.meaning.specs.Reach.{meet, visited, walk, reached};
 ghost use Rattle.table.specs.Table.{table, look, Rows};

@@ -1,21 +1,20 @@
 -- Laws of a table's rows: counted, and drawn one label or one row further. Assumes nothing.
 use Prim.Native.Nat.{ℕ, zero, suc, _+_, _*_, _-_, _≤_, _<_}
 use mathlib.Core.Path.{_≡_, refl, sym, ap, ap₂, _∙_}
-use mathlib.Core.Bool.{Bool, true, false, not, _&&_}
+use mathlib.Core.Bool.{Bool, false, not, _&&_}
 use mathlib.Core.List.{List, [], _∷_, _++_, append-nil}
 use mathlib.Core.Option.{Option, none, some}
-use native.Mathlib.Decide.{decLt, ℕ-discrete}
 use native.Mathlib.Omega.{arith}
 use native.Mathlib.Numerals.{add-one}
 use lib.Dec.{eqb}
 use lib.ListN.{length, length-append}
-use borrow.Author.Tests.{eq-eqb, ne-eqb, eqb-true, eqb-false}
+use borrow.Author.Tests.{eqb-true, eqb-false}
 use Rattle.pen.specs.declared.Pen.{Pen}
 use Rattle.pen.specs.Runs.{inked, placeOf, Ready}
 use Rattle.pen.proofs.Pens.{drawn-none, drawn-behind}
 use Rattle.meaning.specs.Search.{count, at}
 use Rattle.meaning.specs.SearchLaws.{count-cong}
-use Rattle.meaning.specs.Cases.{cases-of, no-both}
+use Rattle.meaning.specs.Cases.{cases-of}
 use Rattle.meaning.specs.Reduced.{has, cell, row, listed}
 use Rattle.meaning.specs.Listing.{cells, cells-max, listed-length}
 use Rattle.meaning.specs.Filter.{Edge}

@@ -1,13 +1,11 @@
 -- `reach::walk` meets its contract. The invariant: the first i states of the queue are visited. Assumes nothing.
-use Prim.Native.Nat.{_+_, _-_}
-use mathlib.Core.Path.{_≡_}
+use Prim.Native.Nat.{_-_}
 use native.Mathlib.Omega.{arith}
 use borrow.Author.Needs.{needs}
 use denote.Ref.{now}
-use Rattle.meaning.specs.Search.{at}
 use Rattle.meaning.specs.Reach.{walked}
-use Rattle.table.specs.Table.{Table, table, look, Rows}
-use Rattle.reach.specs.Walking.{Walked, Walkable}
+use Rattle.table.specs.Table.{table, look}
+use Rattle.reach.specs.Walking.{Walked}
 use Rattle.reach.proofs.Laws.{queue-none, walk-first, next-state, walk-more, walk-full, walk-all}
 use Rattle.reach.proofs.walk.Statement.{statement}
 use Rattle.reach.proofs.walk.Tie as tie

@@ -1,6 +1,5 @@
 -- `rounds::settle` meets its contract. The invariant: the run goes on from p as it went from the beginning. Assumes nothing.
 use Prim.Native.Nat.{_-_}
-use borrow.Author.Needs.{needs}
 use native.Mathlib.Omega.{arith}
 use mathlib.Core.Path.{_≡_, sym, ap, _∙_}
 use lib.ListN.{length}

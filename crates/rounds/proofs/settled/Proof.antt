@@ -1,5 +1,5 @@
 -- `rounds::settled` meets its contract. Assumes nothing.
-use Prim.Native.Nat.{ℕ, _≤_}
+use Prim.Native.Nat.{ℕ}
 use mathlib.Core.Path.{_≡_, sym, ap, subst, _∙_}
 use mathlib.Core.Bool.{Bool}
 use mathlib.Core.List.{List}
@@ -8,7 +8,7 @@ use borrow.Author.Needs.{needs}
 use denote.Ref.{now}
 use lib.ListN.{length, take}
 use lib.Seq.{length-take-le}
-use Rattle.meaning.specs.Reach.{among, reached}
+use Rattle.meaning.specs.Reach.{among}
 use Rattle.meaning.specs.ReachLaws.{Bounded}
 use Rattle.meaning.specs.Classes.{groups}
 use Rattle.table.specs.Table.{Table, table, look}
