@@ -19,8 +19,8 @@ use Rattle.meaning.specs.ReachLaws.{reached-labels}
 use Rattle.meaning.specs.Filter.{Filter, states, inOrder}
 use Rattle.meaning.specs.Trace.{edge, colour}
 use Rattle.meaning.specs.Classes.{Task, Classes, initial, groups, reduction, classes, number}
-use Rattle.meaning.specs.Traced.{opt}
-use Rattle.meaning.specs.Demand.{fits, start-live, target-live, good}
+use Rattle.meaning.specs.Traced.{In, opt}
+use Rattle.meaning.specs.Demand.{fits, start-live, target-live, in-live, good}
 use Rattle.meaning.specs.Reduced.{live, taskOver, task, reduce, mergedOver, merged, reduced, classList, distinct}
 use Rattle.layout.specs.declared.Profile.{Profile}
 use Rattle.layout.specs.Code.{Usable}
@@ -120,7 +120,10 @@ module _ (Q : Profile) (usable : Usable Q) (narrow : Q .labels ≤ 6) (s : List 
       no-seat a h l = rw ended (good F few ok .out a (omega (arith, h, states-are)) l)
 
       seated-live : (a : ℕ) → a < n → at (take n names) a < n → live F a ≡ true
-      seated-live a h l = cases-of (live F a) (λ q. q) (λ q. absurd (omega (arith, l, few-states, no-seat a h q)))
+      seated-live a h l = in-live F few ok a (subst (λ (P : List ℕ). In (states F) P a) ended (record {
+        state = omega (arith, h, states-are);
+        seat = omega (arith, l, states-are);
+      }))
 
       named : length names ≡ 256 → Names n names
       named long = record {

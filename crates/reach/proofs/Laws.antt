@@ -10,7 +10,7 @@ use native.Mathlib.Omega.{arith}
 use lib.Dec.{eqb, ltb}
 use lib.ListN.{length, set, take, replicate, length-set, length-append, length-replicate, getD-replicate, List·getD-append}
 use lib.Seq.{getD-at, getD-set-same, getD-set-other, length-take-le, take-suc-set}
-use borrow.Author.Tests.{eq-eqb, ne-eqb, eqb-true, eqb-false, ltb-true, ltb-false, lt-ltb, le-ltb}
+use borrow.Author.Tests.{eq-eqb, ne-eqb, eqb-true, eqb-false, ltb-true, ltb-false, lt-ltb, le-ltb, not-true, not-false}
 use Rattle.meaning.specs.Pick.{pick}
 use Rattle.meaning.specs.Cases.{cases-of, no-both, or-right}
 use Rattle.meaning.specs.Search.{count, at}
@@ -26,17 +26,14 @@ use Rattle.reach.specs.Walking.{Queue, Walked, Walkable, those, Rises}
 
 -- ---- a code is met
 
-not-true : (b : Bool) → not b ≡ true → b ≡ false
-not-true true e = no-both {b = false} e refl
-not-true false e = refl
-
-not-false : (b : Bool) → not b ≡ false → b ≡ true
-not-false true e = refl
-not-false false e = no-both {b = true} refl e
-
 not-not : (b : Bool) → not (not b) ≡ b
 not-not true = refl
 not-not false = refl
+
+-- as many are listed as are met
+walked-long : {codes numbers all : List ℕ} {met : ℕ} → Walked codes numbers met all → length all ≡ met
+walked-long {codes = codes} {met = met} w =
+    ap length (sym (w .says)) ∙ length-take-le met codes (omega (arith, w .queue .most, w .queue .codes-long))
 
 module _ (codes numbers : List ℕ) (met c : ℕ) (q : Queue codes numbers met) (h : c < 256) where
   abbrev all : List ℕ
@@ -61,8 +58,8 @@ module _ (codes numbers : List ℕ) (met c : ℕ) (q : Queue codes numbers met) 
     -- there is a place for a new one
     pub met-room : met < 256
     met-room =
-        let all-long : length all ≡ met = length-take-le met codes (omega (arith, q .most, q .codes-long)) in
-        omega (arith, codes-few 256 (all ++ (c ∷ [])) once-more, length-append all (c ∷ []), all-long)
+        let listed = walked-long {all = all} record { queue = q; says = refl } in
+        omega (arith, codes-few 256 (all ++ (c ∷ [])) once-more, length-append all (c ∷ []), listed)
 
     abbrev codes′ : List ℕ
     codes′ = set codes met c
@@ -146,22 +143,22 @@ queue-none codes numbers l e = rw e record {
     none-once : (n : ℕ) → count (λ c. false) n ≡ 0
     none-once n = count-none n
 
+-- a table of n states has 64 labels
+pub look-bounded : (T : Table) (n start : ℕ) → start < n → ((s y t : ℕ) → look T s y ≡ some t → t < n) → Bounded (look T) 64 n start
+look-bounded T n start begins inside =
+    record { begins = begins; label-lt = λ s y t e. look-there T s y t e .0; target-lt = inside }
+
 module _ (T : Table) (n start : ℕ) (codes numbers : List ℕ) (lent : Walkable T n start codes numbers) where
-  pub bounded : Bounded (look T) 64 n start
-  bounded = record {
-    begins = lent .begins;
-    label-lt = λ s y t e. look-there T s y t e .0;
-    target-lt = lent .inside;
-  }
+  bounded : Bounded (look T) 64 n start
+  bounded = look-bounded T n start (lent .begins) (lent .inside)
 
   -- the state that is visited next is one of the n
   pub next-state : (codes′ numbers′ : List ℕ) (met i : ℕ) → Walked codes′ numbers′ met (walked (look T) 64 start i) → i < met → at codes′ i < n
   next-state codes′ numbers′ met i w h =
       let all = walked (look T) 64 start i in
-      let long : length all ≡ met = ap length (sym (w .says)) ∙ length-take-le met codes′ (omega (arith, w .queue .most, w .queue .codes-long)) in
       let here : at all i ≡ at codes′ i = ap (λ (xs : List ℕ). at xs i) (sym (w .says)) ∙ at-take codes′ met i h in
       subst (λ (c : ℕ). c < n) here
-      (walked-codes (look T) 64 n start bounded i .below (at all i) (at-among all i (omega (arith, h, long))))
+      (walked-codes (look T) 64 n start bounded i .below (at all i) (at-among all i (omega (arith, h, walked-long w))))
 
   -- a visit more
   pub walk-more : {codes′ numbers′ : List ℕ} {met i s : ℕ} → Walked codes′ numbers′ met (walked (look T) 64 start i) → i < met → s ≡ at codes′ i
@@ -169,36 +166,29 @@ module _ (T : Table) (n start : ℕ) (codes numbers : List ℕ) (lent : Walkable
       → Walked codes″ numbers″ met′ (walked (look T) 64 start (i + 1))
   walk-more {codes′ = codes′} {met = met} {i = i} {s = s} w h e v =
       let all = walked (look T) 64 start i in
-      let long : length all ≡ met = ap length (sym (w .says)) ∙ length-take-le met codes′ (omega (arith, w .queue .most, w .queue .codes-long)) in
       let here : s ≡ at all i = e ∙ sym (at-take codes′ met i h) ∙ ap (λ (xs : List ℕ). at xs i) (w .says) in
       record {
         queue = v .queue;
         says = v .says ∙ ap₂ (λ (s : ℕ) (xs : List ℕ). visited (look T s) 64 xs) here (w .says)
-            ∙ sym (ap (walked (look T) 64 start) (add-one i) ∙ walked-on (look T) 64 start i (omega (arith, h, long)));
+            ∙ sym (ap (walked (look T) 64 start) (add-one i) ∙ walked-on (look T) 64 start i (omega (arith, h, walked-long w)));
       }
 
   -- all are met
   pub walk-full : {codes′ numbers′ : List ℕ} {met i : ℕ} → Walked codes′ numbers′ met (walked (look T) 64 start i) → i < met → met ≡ n
       → Walked codes′ numbers′ met (walk (look T) 64 n start)
-  walk-full {codes′ = codes′} {met = met} {i = i} w h e =
-      let all = walked (look T) 64 start i in
-      let long : length all ≡ met = ap length (sym (w .says)) ∙ length-take-le met codes′ (omega (arith, w .queue .most, w .queue .codes-long)) in
-      record {
-        queue = w .queue;
-        says = w .says ∙ sym (walked-full (look T) 64 n start bounded i (long ∙ e) n (omega (arith, h, e)));
-      }
+  walk-full {i = i} w h e = record {
+    queue = w .queue;
+    says = w .says ∙ sym (walked-full (look T) 64 n start bounded i (walked-long w ∙ e) n (omega (arith, h, e)));
+  }
 
   -- all are visited
   pub walk-all : {codes′ numbers′ : List ℕ} {met i : ℕ} → Walked codes′ numbers′ met (walked (look T) 64 start i) → met ≤ i
       → Walked codes′ numbers′ met (walk (look T) 64 n start)
-  walk-all {codes′ = codes′} {met = met} {i = i} w h =
-      let all = walked (look T) 64 start i in
-      let long : length all ≡ met = ap length (sym (w .says)) ∙ length-take-le met codes′ (omega (arith, w .queue .most, w .queue .codes-long)) in
-      record {
-        queue = w .queue;
-        says = w .says ∙ walked-enough (look T) 64 start i n (omega (arith, h, long))
-            (codes-few n (walk (look T) 64 n start) (walked-codes (look T) 64 n start bounded n));
-      }
+  walk-all {i = i} w h = record {
+    queue = w .queue;
+    says = w .says ∙ walked-enough (look T) 64 start i n (omega (arith, h, walked-long w))
+        (codes-few n (walk (look T) 64 n start) (walked-codes (look T) 64 n start bounded n));
+  }
 
 -- the start is met first
 pub walk-first : (next : ℕ → ℕ → Option ℕ) (m start : ℕ) (codes : List ℕ) → meet (take 0 codes) (some start) ≡ walked next m start 0

@@ -12,7 +12,7 @@ use Rattle.meaning.specs.Reach.{among}
 use Rattle.meaning.specs.ReachLaws.{Bounded}
 use Rattle.meaning.specs.Classes.{groups}
 use Rattle.table.specs.Table.{Table, table, look}
-use Rattle.table.proofs.Laws.{look-there}
+use Rattle.reach.proofs.Laws.{look-bounded}
 use Rattle.rounds.specs.Rounds.{Somebody, taskOf, Settled}
 use Rattle.rounds.proofs.Run.{listed-reached, start-listed}
 use Rattle.rounds.proofs.settled.Statement.{statement}
@@ -29,7 +29,7 @@ abbrev listed : tie.After-live → List ℕ
 listed c = take (c .live .result) (c .live .last .1 .1 .1 .1 .1 .0)
 
 bounded : (c : tie.Start) → Bounded (look (T c)) 64 (c .args .n) (c .args .start)
-bounded c = record { begins = c .pre .1; label-lt = λ s y t e. look-there (T c) s y t e .0; target-lt = c .pre .0 .inside }
+bounded c = look-bounded (T c) (c .args .n) (c .args .start) (c .pre .1) (c .pre .0 .inside)
 
 list-room : tie.Need-array-share-prefix-list
 list-room c = let lists = c .live .ensures .0 in omega (arith, lists .few, start₁ c .pre .0 .few, lists .long)
