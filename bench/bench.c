@@ -283,6 +283,7 @@ static void dense(struct filter *f) { make_dense(f, 256, SEED); }
 static void sparse(struct filter *f) { make_sparse(f, 256, SEED); }
 static void leftovers_256(struct filter *f) { make_leftovers(f, 256, 64, SEED); }
 static void leftovers_16(struct filter *f) { make_leftovers(f, 16, 4, SEED); }
+static void crowd_256(struct filter *f) { make_crowd(f, 256); }
 static void one_agent_5(struct filter *f) { make_one_agent(f, 5); }
 static void one_agent_20(struct filter *f) { make_one_agent(f, 20); }
 static void one_agent_64(struct filter *f) { make_one_agent(f, 64); }
@@ -307,6 +308,7 @@ static const struct {
     {"worst: chain 256 x 64, full", full_chain},
     {"16 x 4, a quarter reached", leftovers_16},
     {"256 x 64, a quarter reached", leftovers_256},
+    {"256 x 8, 255 groups in a round", crowd_256},
 };
 
 enum { FAMILIES = sizeof families / sizeof *families };
@@ -778,20 +780,32 @@ static uint64_t no_dot(const uint8_t *a, size_t b, uint8_t *c, size_t d, uint64_
 /* Calls that do nothing: what they touch belongs to the measuring. */
 static const struct calls nothing = {no_check, no_unpack, no_pack, no_trace, no_reduce, no_dot, no_dot};
 
+/* The most that a call touches over the filters with so many states or fewer. */
+static size_t most_touched(const struct calls *side, size_t k, size_t states)
+{
+    size_t most = 0;
+    for (size_t i = 0; i < FAMILIES; i++) {
+        if (subjects[i].filter.n > states)
+            continue;
+        struct job job = job_of(&subjects[i], measured[k].call, measured[k].observations);
+        size_t touched = deepest(side, &job) - deepest(&nothing, &job);
+        most = touched > most ? touched : most;
+    }
+    return most;
+}
+
 static void print_stack(void)
 {
-    printf("Stack in bytes, the most over all filters above.\n\n| Call | Archive | Plain C |\n|---|--:|--:|\n");
+    static const size_t sizes[] = {16, 64, 256};
+    printf("Stack in bytes, the most over the filters above with up to 16, 64 and 256 states.\n\n");
+    printf("| Call | Archive, 16 | 64 | 256 | Plain C, 16 | 64 | 256 |\n|---|--:|--:|--:|--:|--:|--:|\n");
     for (size_t k = 0; k < MEASURED; k++) {
-        size_t most[2] = {0, 0};
-        for (size_t i = 0; i < FAMILIES; i++) {
-            struct job job = job_of(&subjects[i], measured[k].call, measured[k].observations);
-            size_t around = deepest(&nothing, &job);
-            size_t a = deepest(&archive, &job) - around;
-            size_t b = deepest(&plain, &job) - around;
-            most[0] = a > most[0] ? a : most[0];
-            most[1] = b > most[1] ? b : most[1];
-        }
-        printf("| %s | %zu | %zu |\n", measured[k].name, most[0], most[1]);
+        printf("| %s |", measured[k].name);
+        for (size_t i = 0; i < 3; i++)
+            printf(" %zu |", most_touched(&archive, k, sizes[i]));
+        for (size_t i = 0; i < 3; i++)
+            printf(" %zu |", most_touched(&plain, k, sizes[i]));
+        printf("\n");
     }
     printf("\n");
 }

@@ -106,6 +106,15 @@ void make_leftovers(struct filter *f, size_t n, size_t m, uint64_t seed)
     }
 }
 
+void make_crowd(struct filter *f, size_t n)
+{
+    begin(f, n, 8);
+    f->colours[n - 1] = 1;
+    for (size_t s = 0; s + 1 < n; s++)
+        for (size_t y = 0; y < 8; y++)
+            add_edge(f, s, y, s >> y & 1 ? n - 1 : (s + 1) % (n - 1));
+}
+
 void make_any(struct filter *f, size_t most_states, size_t most_labels, uint64_t *seed)
 {
     begin(f, 1 + random_below(seed, most_states), 1 + random_below(seed, most_labels));

@@ -40,6 +40,12 @@ void make_sparse(struct filter *f, size_t n, uint64_t seed);
  */
 void make_leftovers(struct filter *f, size_t n, size_t m, uint64_t seed);
 
+/*
+ * All states but the last have one colour and eight labels, by which they lead to the last state or to the next one as the bits of their
+ * number say. So any two of them conflict, and a round parts them all.
+ */
+void make_crowd(struct filter *f, size_t n);
+
 /* A filter of at most so many states and labels with any edges at all. */
 void make_any(struct filter *f, size_t most_states, size_t most_labels, uint64_t *seed);
 

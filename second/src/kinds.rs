@@ -4,6 +4,8 @@ use crate::call::DROPPED;
 use crate::case::{entries_of, Call, Case, Outcome};
 use crate::dot::{self, labels_up_to, Drawing};
 use crate::file::{read, Header};
+use crate::make::groups::MANY_GROUPS;
+use crate::reduce::{groups_made, stages};
 use crate::trace::MOST_OBSERVATIONS;
 
 #[derive(Clone, Copy, Debug, PartialEq, Eq, PartialOrd, Ord)]
@@ -24,6 +26,10 @@ pub enum Kind {
     ManyRounds,
     NothingMerged,
     Merged,
+    /// So many groups in one round.
+    Groups(u64),
+    /// A member that joins a group of this word of 64, while there are groups with higher numbers.
+    JoinedInWord(usize),
     /// Where dropped states stand among those that the start reaches, and that it reaches itself alone.
     NothingDropped,
     DroppedBefore,
@@ -108,6 +114,8 @@ pub fn all_of(call: Call) -> Vec<Kind> {
             Kind::DroppedBehind,
             Kind::AllButOneDropped,
         ]);
+        all.extend(MANY_GROUPS.map(Kind::Groups));
+        all.extend([0, 1, 2, 3].map(Kind::JoinedInWord));
     }
     if call == Call::FromDot {
         all.extend([
@@ -165,7 +173,7 @@ fn of_trace(case: &Case, outcome: &Outcome) -> Option<Kind> {
 
 fn of_reduce(case: &Case, outcome: &Outcome) -> Vec<Kind> {
     let n = Header::of(&case.a).map_or(0, |header| header.n);
-    let [states, _, rounds, _] = outcome.answer.counts;
+    let [states, colours, rounds, _] = outcome.answer.counts;
     let mut kinds = Vec::new();
     match outcome.answer.number {
         0 => {
@@ -184,9 +192,27 @@ fn of_reduce(case: &Case, outcome: &Outcome) -> Vec<Kind> {
                 Kind::Merged
             });
             kinds.extend(of_dropped(&dropped));
+            // Each round makes one class more at least, so that only few reductions can have had one with many groups.
+            if states + 2 >= colours + rounds + MANY_GROUPS[0] {
+                kinds.extend(of_groups(&case.a));
+            }
         }
         10 if (case.c.len() as u64) < 2 * n => kinds.push(Kind::BothShort),
         _ => {}
+    }
+    kinds
+}
+
+fn of_groups(file: &[u8]) -> Vec<Kind> {
+    let filter = read(file).expect("an accepted file");
+    let mut kinds = Vec::new();
+    for groups in groups_made(&stages(&filter)) {
+        kinds.push(Kind::Groups(groups.len() as u64));
+        for (number, two) in groups.windows(2).enumerate() {
+            if two[0].last() > two[1].first() {
+                kinds.push(Kind::JoinedInWord(number / 64));
+            }
+        }
     }
     kinds
 }

@@ -9,6 +9,7 @@ pub mod drawings;
 pub mod edits;
 pub mod files;
 pub mod filters;
+pub mod groups;
 pub mod leftovers;
 pub mod lists;
 pub mod reduces;

@@ -64,6 +64,17 @@ pub fn stages(filter: &Filter) -> Vec<Stage> {
     }
 }
 
+/// The groups that each round made, in the order of their numbers: a group has its number from its first member, which names
+/// it, and members are taken in ascending order.
+pub fn groups_made(stages: &[Stage]) -> Vec<Vec<Class>> {
+    let made = |two: &[Stage]| {
+        (two[1].classes.difference(&two[0].classes))
+            .cloned()
+            .collect()
+    };
+    stages.windows(2).map(made).collect()
+}
+
 fn one_class_a_colour(filter: &Filter) -> BTreeSet<Class> {
     let mut of_colour: BTreeMap<u64, Class> = BTreeMap::new();
     for state in reached(filter) {

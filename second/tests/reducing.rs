@@ -2,11 +2,12 @@
 
 use second::file::{length, read, write, Filter};
 use second::make::chains::plain;
+use second::make::groups::{crowd, MANY_GROUPS};
 use second::make::traces::walk;
 use second::make::{leftovers, reduces};
 use second::random::{seed, Random};
 use second::reach::reached;
-use second::reduce::{reduce, Reduced};
+use second::reduce::{groups_made, reduce, stages, Reduced};
 use second::rides::*;
 use second::rounds::rounds;
 use second::trace::ride;
@@ -108,6 +109,22 @@ fn classes_are_judged_as_the_round_began_and_stay() {
 #[test]
 fn the_longest_chain_takes_254_rounds() {
     assert_eq!(reduce(&plain(256)), kept(plain(256), 2, 254));
+}
+
+/// Any two members conflict, so each is a group of its own; and those that come behind them join these groups.
+#[test]
+fn a_class_needs_as_many_groups_as_it_has_codes() {
+    let seed = seed();
+    let mut random = Random::new(seed);
+    for groups in MANY_GROUPS {
+        let alone = crowd(&mut random, groups, groups);
+        assert_eq!(reduce(&alone), kept(alone, 2, 1), "SEED={seed}");
+        let joined = crowd(&mut random, groups, 255);
+        let made = &groups_made(&stages(&joined))[0];
+        assert_eq!(made.len() as u64, groups, "SEED={seed}");
+        let members: usize = made.iter().map(|group| group.len()).sum();
+        assert_eq!(members, 255, "SEED={seed}");
+    }
 }
 
 #[test]

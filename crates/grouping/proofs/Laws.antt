@@ -1,22 +1,25 @@
 -- Laws of marks and groups. Assumes nothing.
-use Prim.Native.Nat.{ℕ, zero, suc, _+_, _≤_, _<_}
-use mathlib.Core.Path.{_≡_, refl, sym, ap, subst, _∙_}
+use Prim.Native.Nat.{ℕ, zero, suc, _+_, _/_, _%_, _≤_, _<_}
+use mathlib.Core.Path.{_≡_, refl, sym, ap, ap₂, subst, _∙_}
 use mathlib.Core.Bool.{Bool, true, false, not, _&&_, _||_}
 use mathlib.Core.List.{List, [], _∷_, _++_}
 use native.Mathlib.Omega.{arith}
 use native.Mathlib.Numerals.{add-one}
 use lib.Dec.{eqb, ltb}
-use lib.ListN.{set, take, replicate, length-set, length-replicate}
+use lib.ListN.{length, set, take, replicate, length-set, length-replicate}
 use lib.Seq.{take-suc, take-suc-set, getD-set-same, getD-set-other}
 use borrow.Author.Tests.{eq-eqb, ne-eqb, eqb-true, eqb-false, ltb-true, ltb-false}
-use Rattle.meaning.specs.Cases.{cases-of, or-right}
-use Rattle.meaning.specs.Search.{any, least, bit, at}
-use Rattle.meaning.specs.SearchLaws.{least-max, least-cong, at-take, any-cong}
+use Rattle.meaning.specs.Cases.{cases-of, no-both, and-left, and-right, or-right}
+use Rattle.meaning.specs.Search.{any, least, at}
+use Rattle.meaning.specs.SearchLaws.{least-is, least-empty, least-max, least-cong, at-take, any-cong, any-elim}
 use Rattle.meaning.specs.Classes.{free, groups}
+use Rattle.meaning.specs.ClassesLaws.{groups-le}
+use Rattle.sets.specs.Sets.{holds, contains, Missing}
+use Rattle.sets.proofs.FourLaws.{blank, contains-none, contains-with}
 use Rattle.conflicts.proofs.Laws.{and-false}
 use Rattle.members.specs.Members.{Heads}
 use Rattle.members.proofs.Laws.{Hop}
-use Rattle.grouping.specs.Grouping.{taken, Marks, Grouped}
+use Rattle.grouping.specs.Grouping.{taken, Below, Marks, Grouped}
 
 -- ---- members up to s
 
@@ -46,87 +49,108 @@ groupOf clash P c G s = elim (eqb (at P s) c) [ true ↦ least (λ g. not (taken
 -- ---- marks
 
 module _ (clashes : ℕ → ℕ → Bool) (P G : List ℕ) (c s : ℕ) where
-  blank : (n g : ℕ) → at (replicate n 0) g ≡ 0
-  blank zero g = refl
-  blank (suc n) zero = refl
-  blank (suc n) (suc g) = blank n g
+  -- the groups that the members before t take are marked, and none from `top` on
+  pub record Marked (marks : List ℕ) (top t : ℕ) : Type 0 where
+    pub long : length marks ≡ 4
+    pub below : Below marks top
+    pub says : (g : ℕ) → g < 256 → contains marks g ≡ taken clashes P G c s g t
 
-  pub marks-none : Marks clashes P G c s (replicate 256 0) 0
+  pub marked-none : Marked (replicate 4 0) 0 0
   unfolding taken any
-  marks-none = record { long = length-replicate {A = ℕ} 256 0; says = λ g h. blank 256 g }
+  marked-none = record {
+    long = length-replicate {A = ℕ} 4 0;
+    below = λ g h. contains-none 4 g;
+    says = λ g h. contains-none 4 g;
+  }
 
   taken-next : (g t : ℕ)
       → taken clashes P G c s g (t + 1) ≡ (eqb (at P t) c && (clashes t s && eqb (at G t) g)) || taken clashes P G c s g t
   unfolding taken any
   taken-next g t = rw (add-one t, any)
 
-  same-mark : (marks now : List ℕ) (t u : ℕ) → Marks clashes P G c s marks t → now ≡ marks
-      → ((g : ℕ) → g < 256 → taken clashes P G c s g u ≡ taken clashes P G c s g t) → Marks clashes P G c s now u
-  same-mark marks now t u r e h = record { long = rw e (r .long); says = λ g l. rw (e, h g l) (r .says g l) }
+  module _ (marks : List ℕ) (top t : ℕ) (r : Marked marks top t) where
+    as-before : (now : List ℕ) (top′ u : ℕ) → now ≡ marks → top′ ≡ top
+        → ((g : ℕ) → taken clashes P G c s g u ≡ taken clashes P G c s g t) → Marked now top′ u
+    as-before now top′ u e f h = rw (e, f) record {
+      long = r .long;
+      below = r .below;
+      says = λ g l. r .says g l ∙ sym (h g);
+    }
 
-  -- states that are no members mark nothing
-  pub marks-skip : (marks : List ℕ) (t u : ℕ) → Marks clashes P G c s marks t → t ≤ u → ((x : ℕ) → t ≤ x → x < u → at P x ≡ c → ⊥)
-      → Marks clashes P G c s marks u
+    -- states that are no members mark nothing
+    pub marked-skip : (u : ℕ) → t ≤ u → ((x : ℕ) → t ≤ x → x < u → at P x ≡ c → ⊥) → Marked marks top u
+    unfolding taken
+    marked-skip u l h = as-before marks top u refl refl (λ g. any-skip _ t u l (λ x k b. rw (ne-eqb _ _ (h x k b))))
+
+    pub marked-calm : (now : List ℕ) (top′ : ℕ) → now ≡ marks → top′ ≡ top → clashes t s ≡ false → Marked now top′ (t + 1)
+    marked-calm now top′ e f h = as-before now top′ (t + 1) e f (λ g. taken-next g t ∙ rw (h, and-false (eqb (at P t) c)))
+
+    -- a group that is marked needs no other member
+    pub marked-again : (now : List ℕ) (top′ : ℕ) → now ≡ marks → top′ ≡ top → at G t < 256 → contains marks (at G t) ≡ true
+        → Marked now top′ (t + 1)
+    marked-again now top′ e f l h = as-before now top′ (t + 1) e f (λ g. taken-next g t ∙ cases-of (eqb (at G t) g) (same g) (other g))
+      where
+        same : (g : ℕ) → eqb (at G t) g ≡ true
+            → (eqb (at P t) c && (clashes t s && eqb (at G t) g)) || taken clashes P G c s g t ≡ taken clashes P G c s g t
+        same g q =
+            let all : taken clashes P G c s g t ≡ true =
+            ap (λ (k : ℕ). taken clashes P G c s k t) (sym (eqb-true (at G t) g q)) ∙ sym (r .says (at G t) l) ∙ h in
+            rw (all, or-right (eqb (at P t) c && (clashes t s && eqb (at G t) g)) refl)
+
+        other : (g : ℕ) → eqb (at G t) g ≡ false
+            → (eqb (at P t) c && (clashes t s && eqb (at G t) g)) || taken clashes P G c s g t ≡ taken clashes P G c s g t
+        other g q = rw (q, and-false (clashes t s), and-false (eqb (at P t) c))
+
+    -- the group of t is marked
+    pub marked-more : (now : List ℕ) (top′ group x : ℕ) → now ≡ set marks (group / 64) x
+        → ((i : ℕ) → holds x i ≡ (eqb (group % 64) i || holds (at marks (group / 64)) i)) → group ≡ at G t → group < 256
+        → top ≤ top′ → group + 1 ≤ top′ → at P t ≡ c → clashes t s ≡ true → Marked now top′ (t + 1)
+    marked-more now top′ group x e more is low h l member k = rw e record {
+      long = length-set marks (group / 64) x ∙ r .long;
+      below = λ g b. said g ∙ ap (λ (z : Bool). z || contains marks g) (ne-eqb group g (λ q. omega arith)) ∙ r .below g (omega arith);
+      says = λ g b. said g ∙ ap₂ (λ (i : ℕ) (z : Bool). eqb i g || z) is (r .says g b) ∙ sym (taken-next g t ∙ rw (eq-eqb _ _ member, k));
+    }
+      where
+        said : (g : ℕ) → contains (set marks (group / 64) x) g ≡ (eqb group g || contains marks g)
+        said = contains-with marks group x (omega (arith, r .long)) more
+
+    pub marked-all : t ≡ s → Marks clashes P G c s marks s
+    marked-all e = record { says = λ g l. r .says g l ∙ ap (taken clashes P G c s g) e }
+
+  -- the groups before s are all below it, so that s itself is free
+  own-free : ((t : ℕ) → t < s → at P t ≡ c → at G t ≤ t) → taken clashes P G c s s s ≡ false
   unfolding taken
-  marks-skip marks t u r l h = same-mark marks marks t u r refl (λ g _. any-skip _ t u l (λ x k b. rw (ne-eqb _ _ (h x k b))))
-
-  pub marks-calm : (marks now : List ℕ) (t : ℕ) → Marks clashes P G c s marks t → now ≡ marks → clashes t s ≡ false
-      → Marks clashes P G c s now (t + 1)
-  marks-calm marks now t r e h = same-mark marks now t (t + 1) r e (λ g _. taken-next g t ∙ rw (h, and-false (eqb (at P t) c)))
-
-  -- a group that is marked needs no other member
-  pub marks-again : (marks now : List ℕ) (t : ℕ) → Marks clashes P G c s marks t → now ≡ marks → at G t < 256
-      → (at marks (at G t) ≡ 0 → ⊥) → Marks clashes P G c s now (t + 1)
-  marks-again marks now t r e l h =
-      same-mark marks now t (t + 1) r e (λ g k. taken-next g t ∙ cases-of (eqb (at G t) g) (same g) (other g))
+  own-free low = cases-of (any own s)
+      (λ q. let t = any-elim own s q in
+      let member : at P (t .0) ≡ c = eqb-true _ _ (and-left (eqb (at P (t .0)) c) _ (t .2)) in
+      let rest = and-right (eqb (at P (t .0)) c) (clashes (t .0) s && eqb (at G (t .0)) s) (t .2) in
+      let same : at G (t .0) ≡ s = eqb-true _ _ (and-right (clashes (t .0) s) (eqb (at G (t .0)) s) rest) in
+      absurd (omega (arith, low (t .0) (t .1) member, same, t .1)))
+      (λ q. q)
     where
-      marked : taken clashes P G c s (at G t) t ≡ true
-      marked = cases-of (taken clashes P G c s (at G t) t) (λ q. q) (λ q. absurd (h (r .says (at G t) l ∙ rw q)))
+      own : ℕ → Bool
+      own t = eqb (at P t) c && (clashes t s && eqb (at G t) s)
 
-      same : (g : ℕ) → eqb (at G t) g ≡ true
-          → (eqb (at P t) c && (clashes t s && eqb (at G t) g)) || taken clashes P G c s g t ≡ taken clashes P G c s g t
-      same g q =
-          let all : taken clashes P G c s g t ≡ true =
-          ap (λ (k : ℕ). taken clashes P G c s k t) (sym (eqb-true (at G t) g q)) ∙ marked in
-          rw (all, or-right (eqb (at P t) c && (clashes t s && eqb (at G t) g)) refl)
-
-      other : (g : ℕ) → eqb (at G t) g ≡ false
-          → (eqb (at P t) c && (clashes t s && eqb (at G t) g)) || taken clashes P G c s g t ≡ taken clashes P G c s g t
-      other g q = rw (q, and-false (clashes t s), and-false (eqb (at P t) c))
-
-  pub marks-more : (marks now : List ℕ) (t g : ℕ) → Marks clashes P G c s marks t → now ≡ set marks g 1 → g ≡ at G t → at P t ≡ c
-      → clashes t s ≡ true → at G t < 256
-      → Marks clashes P G c s now (t + 1)
-  marks-more marks now t g r u v e k l =
-      rw (u, v) record { long = length-set marks (at G t) 1 ∙ r .long; says = λ g h. cases-of (eqb (at G t) g) (same g) (other g h) }
-    where
-      here : (g : ℕ) → taken clashes P G c s g (t + 1) ≡ eqb (at G t) g || taken clashes P G c s g t
-      here g = taken-next g t ∙ rw (eq-eqb _ _ e, k)
-
-      same : (g : ℕ) → eqb (at G t) g ≡ true → at (set marks (at G t) 1) g ≡ bit (taken clashes P G c s g (t + 1))
-      same g q =
-          let e : at G t ≡ g = eqb-true (at G t) g q in
-          let kept : at (set marks (at G t) 1) g ≡ 1 =
-          ap (at (set marks (at G t) 1)) (sym e) ∙ getD-set-same marks (at G t) 1 0 (omega (arith, r .long)) in
-          rw (here g, q, kept)
-
-      other : (g : ℕ) → g < 256 → eqb (at G t) g ≡ false → at (set marks (at G t) 1) g ≡ bit (taken clashes P G c s g (t + 1))
-      other g h q = rw (here g, q) (getD-set-other marks (at G t) g 1 0 (λ z. eqb-false (at G t) g q (sym z)) ∙ r .says g h)
-
-  pub marks-all : (marks : List ℕ) (t : ℕ) → Marks clashes P G c s marks t → t ≡ s → Marks clashes P G c s marks s
-  marks-all marks t r e = subst (Marks clashes P G c s marks) e r
-
-  bit-zero : (b : Bool) → eqb (bit b) 0 ≡ not b
-  bit-zero true = refl
-  bit-zero false = refl
-
-  pub group-marked : (marks : List ℕ) → s < 256 → at P s ≡ c → Marks clashes P G c s marks s
-      → least (λ g. eqb (at marks g) 0) s ≡ groupOf clashes P c G s
+  -- the smallest group without a mark is the smallest that is not taken
+  pub group-marked : (marks : List ℕ) (g : ℕ) → s < 256 → at P s ≡ c → ((t : ℕ) → t < s → at P t ≡ c → at G t ≤ t)
+      → Marks clashes P G c s marks s → Missing marks g → g ≡ groupOf clashes P c G s
   unfolding groupOf
-  group-marked marks l e r =
-      rw (groupOf, eq-eqb (at P s) c e)
-      (least-cong (λ g. eqb (at marks g) 0) (λ g. not (taken clashes P G c s g s)) s
-      (λ g h. ap (λ (v : ℕ). eqb v 0) (r .says g (omega arith)) ∙ bit-zero (taken clashes P G c s g s)))
+  group-marked marks g l e low r missing = rw (groupOf, eq-eqb (at P s) c e) (go (ltb g s) refl)
+    where
+      spare : ℕ → Bool
+      spare h = not (taken clashes P G c s h s)
+
+      shut : (h : ℕ) → h < g → h < 256 → spare h ≡ false
+      shut h b k = ap not (sym (r .says h k) ∙ missing .below h b)
+
+      go : (b : Bool) → ltb g s ≡ b → g ≡ least spare s
+      go true q =
+          let b = ltb-true g s q in
+          sym (least-is spare s g b (ap not (sym (r .says g (omega arith)) ∙ missing .gone)) (λ h k. shut h k (omega arith)))
+      go false q =
+          let b : s ≤ g = ltb-false g s q in
+          let here : g ≡ s = cases-of (ltb s g) (λ z. no-both (ap not (own-free low)) (shut s (ltb-true s g z) l)) (λ z. omega (arith, ltb-false s g z)) in
+          omega (arith, here, least-empty spare s (λ h k. shut h (omega arith) (omega arith)), least-max spare s)
 
   pub group-low : groupOf clashes P c G s ≤ s
   unfolding groupOf
@@ -148,7 +172,7 @@ module _ (clashes : ℕ → ℕ → Bool) (P : List ℕ) (c : ℕ) where
     long = length-replicate {A = ℕ} 256 0;
     front = refl;
     low = λ t l. absurd (omega arith);
-    rest = λ t l. blank clashes P [] c 0 256 t;
+    rest = λ t l. blank 256 t;
   }
 
   -- the group of s, from the groups of the states before it
@@ -178,6 +202,12 @@ module _ (clashes : ℕ → ℕ → Bool) (P : List ℕ) (c : ℕ) where
         (λ q. let z = eqb-false t s q in rw (getD-set-other G s t v 0 (λ u. z u)) (r .low t (omega arith)));
     rest = λ t h. let z : t ≡ s → ⊥ = λ u. omega arith in rw (getD-set-other G s t v 0 z) (r .rest t (omega arith));
   }
+
+  -- a member's group is no higher than itself
+  pub grouped-le : (G : List ℕ) (s : ℕ) → Grouped clashes P c G s → (t : ℕ) → t < s → at P t ≡ c → at G t ≤ t
+  grouped-le G s r t h e =
+      let there : at G t ≡ at (groups member clashes s) t = sym (at-take G s t h) ∙ ap (λ (xs : List ℕ). at xs t) (r .front) in
+      rw there (groups-le member clashes s t h (eq-eqb (at P t) c e))
 
   -- a state that is no member has group 0
   grouped-other : (G : List ℕ) (s : ℕ) → Grouped clashes P c G s → s < 256 → (at P s ≡ c → ⊥) → Grouped clashes P c G (s + 1)

@@ -1,15 +1,37 @@
 // The groups of a class: each member gets the smallest group that no earlier conflicting member has.
+use sets::Four;
 ghost use mathlib.Core.Path.{_≡_};
-ghost use Prim.Native.Nat.{_<_};
-ghost use lib.Dec.{eqb};
+ghost use mathlib.Core.Bool.{not};
+ghost use Prim.Native.Nat.{_≤_, _<_};
 ghost use lib.ListN.{length, replicate};
-ghost use Rattle.meaning.specs.Search.{least, at};
+ghost use Rattle.sets.specs.Sets.{contains};
 ghost use Rattle.table.specs.Table.{table};
 ghost use Rattle.conflicts.specs.Conflicts.{clash};
 ghost use Rattle.members.specs.Members.{Heads, Searched};
-ghost use Rattle.grouping.specs.Grouping.{Marking, Marks, Grouped};
+ghost use Rattle.grouping.specs.Grouping.{Marking, Below, Marks, Grouped};
 
-// Marks the groups of the members of class c before s that conflict with s.
+// The larger of two numbers.
+fn larger(a: usize, b: usize) -> usize
+    ensures { λ r. ⌜ (a ≤ r) × (b ≤ r) ⌝ }
+{
+    if a < b {
+        return b;
+    }
+    a
+}
+
+// Whether a group is not marked. No group from `top` on is, which spares the look into the words for most.
+fn unmarked(words: &[u64; 4], top: usize, group: usize) -> bool
+    requires { ⌜ Below (now words) top × (group < 256) × (length (now words) ≡ 4) ⌝ }
+    ensures { λ r. ⌜ r ≡ not (contains (now (words .entry)) group) ⌝ }
+{
+    if top <= group {
+        return true;
+    }
+    !sets::holds(words[group / 64], group % 64)
+}
+
+// The groups of the members of class c before s that conflict with s.
 fn mark(
     targets: &[u8],
     labels: &[u64],
@@ -19,38 +41,27 @@ fn mark(
     n: usize,
     c: usize,
     s: usize,
-    marks: &mut [u8; 256],
-)
+) -> Four
     requires { ⌜ Searched (table (now targets) (now labels)) (now names) (now next) n × Heads (now names) n c
-        × Marking (now names) (now groups) (now marks) n c s ⌝ }
-    ensures { λ _. ⌜ Marks (clash (table (now (targets .entry)) (now (labels .entry))) (now (names .entry)))
-        (now (names .entry)) (now (groups .entry)) c s (now (marks .exit)) s ⌝ }
+        × Marking (now names) (now groups) n c s ⌝ }
+    ensures { λ r. ⌜ Marks (clash (table (now (targets .entry)) (now (labels .entry))) (now (names .entry)))
+        (now (names .entry)) (now (groups .entry)) c s (r .words) s ⌝ }
 {
+    let mut words: [u64; 4] = [0; 4];
+    let mut top: usize = 0;
     let mut t = c;
     while t < s {
         let group = arrays::wide(groups[t]);
-        if marks[group] == 0 {
+        if unmarked(&words, top, group) {
             if conflicts::conflict(targets, labels, names, t, s) {
-                marks[group] = 1;
+                let w = group / 64;
+                words[w] = sets::with(words[w], group % 64);
+                top = larger(top, group + 1);
             }
         }
         t = arrays::wide(next[t]);
     }
-}
-
-// The smallest unmarked place below s; s where there is none.
-fn smallest_unmarked(marks: &[u8; 256], s: usize) -> u16
-    requires { ⌜ (s < 256) × (length (now marks) ≡ 256) ⌝ }
-    ensures { λ r. ⌜ r ≡ least (λ g. eqb (at (now (marks .entry)) g) 0) s ⌝ }
-{
-    let mut g: usize = 0;
-    while g < s {
-        if marks[g] == 0 {
-            return g as u16;
-        }
-        g += 1;
-    }
-    g as u16
+    Four { words }
 }
 
 // The group of each member of class c, members taken in ascending order; other states keep 0.
@@ -70,9 +81,8 @@ pub fn group(
 {
     let mut s = c;
     while s < n {
-        let mut marks = arrays::zero_bytes();
-        mark(targets, labels, names, next, into, n, c, s, &mut marks);
-        into[s] = smallest_unmarked(&marks, s);
+        let marks = mark(targets, labels, names, next, into, n, c, s);
+        into[s] = marks.smallest_missing() as u16;
         s = arrays::wide(next[s]);
     }
 }

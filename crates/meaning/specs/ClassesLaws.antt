@@ -42,7 +42,7 @@ module _ (mem : ℕ → Bool) (clash : ℕ → ℕ → Bool) where
   unfolding groups
   groups-last k e = getD-at (groups mem clash k) _ [] 0 k (groups-length k) ∙ rw e
 
-  groups-le : (n i : ℕ) → i < n → mem i ≡ true → at (groups mem clash n) i ≤ i
+  pub groups-le : (n i : ℕ) → i < n → mem i ≡ true → at (groups mem clash n) i ≤ i
   unfolding free
   groups-le n i h e = rw (groups-at n i h, groups-last i e) (least-max _ i)
 

@@ -77,6 +77,27 @@ holds-less a b j =
     ∙ ap (λ (x : ℕ). eqb (bitXor (a / 2 ^ j % 2) x) 1) (ap (λ (x : ℕ). x % 2) (and-shr a b j) ∙ and-mod (a / 2 ^ j) (b / 2 ^ j) 1)
     ∙ less-digit (a / 2 ^ j % 2) (b / 2 ^ j % 2) (omega arith) (omega arith)
 
+-- ---- what is not in a set
+
+-- each digit below the width is the other one
+pub holds-others : (w x j : ℕ) → x < 2 ^ w → j < w → holds (2 ^ w - 1 - x) j ≡ not (holds x j)
+holds-others zero x j l h = absurd (omega arith)
+holds-others (suc w) x zero l h = holds-first (2 ^ suc w - 1 - x) ∙ go (x % 2) refl ∙ sym (ap not (holds-first x))
+  where
+    flipped : (2 ^ suc w - 1 - x) % 2 ≡ 1 - x % 2
+    flipped = omega (arith, pow-suc 2 w)
+
+    go : (d : ℕ) → x % 2 ≡ d → eqb ((2 ^ suc w - 1 - x) % 2) 1 ≡ not (eqb (x % 2) 1)
+    go zero e = rw (flipped, e)
+    go (suc zero) e = rw (flipped, e)
+    go (suc (suc d)) e = absurd (omega arith)
+holds-others (suc w) x (suc j) l h =
+    holds-later (2 ^ suc w - 1 - x) j ∙ ap (λ (y : ℕ). holds y j) half ∙ holds-others w (x / 2) j (omega (arith, pow-suc 2 w)) (omega arith)
+    ∙ sym (ap not (holds-later x j))
+  where
+    half : (2 ^ suc w - 1 - x) / 2 ≡ 2 ^ w - 1 - x / 2
+    half = omega (arith, pow-suc 2 w)
+
 -- ---- no number, one number
 
 eqb-later : (k j : ℕ) → eqb (suc k) (suc j) ≡ eqb k j

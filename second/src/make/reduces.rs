@@ -6,6 +6,7 @@ use crate::kinds::MANY_ROUNDS;
 use crate::make::chains::{chains, lengths};
 use crate::make::draft::Draft;
 use crate::make::filters::{damageable, filter, large, led};
+use crate::make::groups;
 use crate::make::leftovers;
 use crate::make::rooms::{any, Room};
 use crate::make::Family;
@@ -75,6 +76,11 @@ pub const FAMILIES: &[Family<Case>] = &[
         name: "chains of many rounds",
         times: 1,
         make: many_rounds,
+    },
+    Family {
+        name: "classes of many groups",
+        times: 1,
+        make: groups::many_groups,
     },
     Family {
         name: "rooms of a reduction",

@@ -2,13 +2,12 @@
 use Prim.Native.Nat.{_≤_, _+_, _-_}
 use borrow.Author.Needs.{needs}
 use native.Mathlib.Omega.{arith}
-use mathlib.Core.Path.{_∙_}
 use denote.Ref.{now}
 use Rattle.table.specs.Table.{table}
 use Rattle.conflicts.specs.Conflicts.{clash}
 use Rattle.members.proofs.Laws.{Standing, Hop, at-head, hop}
 use Rattle.grouping.specs.Grouping.{Grouped}
-use Rattle.grouping.proofs.Laws.{grouped-none, grouped-more, grouped-skip, grouped-all, group-marked}
+use Rattle.grouping.proofs.Laws.{grouped-none, grouped-more, grouped-skip, grouped-all, grouped-le, group-marked}
 use Rattle.grouping.proofs.group.Statement.{statement}
 use Rattle.grouping.proofs.group.Tie as tie
 
@@ -29,9 +28,9 @@ loop-holds c =
 
 mark-requires : tie.Need-mark-requires Inv-loop μ-loop
 mark-requires c κs =
-    let loop = c .before .before .before .before in
+    let loop = c .before .before in
     let pre = loop .before .before .before .pre in
-    let here = c .before .before .before .loop-test .taken in (
+    let here = c .before .loop-test .taken in (
       pre .0,
       pre .1,
       record {
@@ -39,23 +38,19 @@ mark-requires c κs =
         member = loop .loop .inv .0 .member here;
         groups-long = loop .loop .inv .1 .long;
         groups-low = loop .loop .inv .1 .low;
-        unmarked = c .before .before .zero-bytes .ensures .0;
       },
     )
 
-smallest-unmarked-requires : tie.Need-smallest-unmarked-requires Inv-loop μ-loop
-smallest-unmarked-requires c κs = (omega arith, c .before .mark .ensures .long)
-
 element-write-into : tie.Need-element-write-into Inv-loop μ-loop
-element-write-into c = omega (arith, c .before .before .before .before .before .before .before .loop .inv .1 .long)
+element-write-into c = omega (arith, c .before .before .before .before .loop .inv .1 .long)
 
 step : (c : tie.After-wide Inv-loop μ-loop)
-    → let loop = c .before .before .before .before .before .before .before .before .before in
+    → let loop = c .before .before .before .before .before .before in
     let a = loop .before .before .before .args in
     Hop (now (a .names)) (a .n) (a .c) (loop .loop .s) (c .wide .result)
 step c =
-    let loop = c .before .before .before .before .before .before .before .before .before in
-    let here = c .before .before .before .before .before .before .before .before .loop-test .taken in
+    let loop = c .before .before .before .before .before .before in
+    let here = c .before .before .before .before .before .loop-test .taken in
     hop _ _ _ (loop .before .before .before .pre .0 .linked) _ _ _ (loop .loop .inv .0) here (c .wide .ensures)
 
 loop-less : tie.Need-loop-less Inv-loop μ-loop
@@ -64,16 +59,16 @@ loop-less c = let next = step c in
 
 loop-again : tie.Need-loop-again Inv-loop μ-loop
 loop-again c =
-    let loop = c .before .before .before .before .before .before .before .before .before in
+    let loop = c .before .before .before .before .before .before in
     let next = step c in
     let s = loop .loop .s in
-    let here = c .before .before .before .before .before .before .before .before .loop-test .taken in
+    let here = c .before .before .before .before .before .loop-test .taken in
     let member = loop .loop .inv .0 .member here in
-    let marked = group-marked _ _ _ _ s _ (omega arith) member (c .before .before .before .before .mark .ensures) in
-    let chosen = c .before .before .smallest-unmarked .ensures ∙ marked in
+    let low = grouped-le _ _ _ _ s (loop .loop .inv .1) in
+    let chosen = group-marked _ _ _ _ s _ _ (omega arith) member low (c .before .before .before .mark .ensures) (c .before .before .smallest-missing .ensures .1) in
     let more = grouped-more _ _ _ _ s _ (loop .loop .inv .1) (omega arith) chosen in
-    let low : c .wide .result ≤ 256 = omega (arith, next .stands .inside) in
-    (next .stands, grouped-skip _ _ _ _ (s + 1) _ more (omega (arith, next .after)) low (λ x h l. next .gap x (omega arith) l))
+    let within : c .wide .result ≤ 256 = omega (arith, next .stands .inside) in
+    (next .stands, grouped-skip _ _ _ _ (s + 1) _ more (omega (arith, next .after)) within (λ x h l. next .gap x (omega arith) l))
 
 returns : tie.Need-returns Inv-loop μ-loop
 returns c = grouped-all _ _ _ _ _ _ (c .before .loop .inv .1) (omega arith)
@@ -85,9 +80,9 @@ group-spec =
     Inv-loop
     μ-loop
     loop-holds
-    (λ c κs. search needs)
     mark-requires
-    smallest-unmarked-requires
+    (λ c κs. search needs)
+    (λ c. record { fits = omega (arith, c .smallest-missing .ensures .0) })
     (λ c. search needs)
     element-write-into
     (λ c. search needs)
