@@ -4,7 +4,7 @@ use mathlib.Core.Path.{_≡_, refl, sym, ap, _∙_, fun-ext}
 use mathlib.Core.Bool.{true}
 use mathlib.Core.List.{List, [], _∷_, _++_}
 use mathlib.Core.Option.{Option, none, some}
-use Prim.Native.Nat.{ℕ, zero, suc, _+_, _*_, _-_, _≤_, _<_}
+use Prim.Native.Nat.{ℕ, _+_, _*_, _-_, _≤_, _<_}
 use native.Mathlib.Decide.{decLt}
 use native.Mathlib.Nat.{le-antisymm, lt-of-lt-of-le}
 use native.Mathlib.Omega.{arith}
@@ -41,6 +41,7 @@ use Rattle.files.specs.Written.{length-filter, checked-in-order}
 use Rattle.checking.specs.declared.Checked.{Checked}
 use Rattle.checking.specs.declared.Checked.the-variants as checked
 use Rattle.checking.specs.Promise.{checkedOutcome}
+use Rattle.sets.proofs.FourLaws.{blank}
 use Rattle.table.specs.Table.{Table, table, look, Rows, SameRows, withEdge, Put}
 use Rattle.table.proofs.Laws.{look-empty}
 use Rattle.loading.specs.Loading.{Loadable, Loaded, Tabled}
@@ -187,12 +188,7 @@ pub padded : (xs : List ℕ) (n k : ℕ) → at (xs ++ drop n (replicate k 0)) �
 padded xs n k = fun-ext λ s. go s (decLt s (length xs))
   where
     zeros : (k n s : ℕ) → _≡_ {A = ℕ} (getD (drop n (replicate k 0)) s 0) 0
-    zeros k n s = getD-drop n (replicate k 0) s 0 ∙ zero-at k (n + s)
-      where
-        zero-at : (k j : ℕ) → _≡_ {A = ℕ} (getD (replicate k 0) j 0) 0
-        zero-at zero j = refl
-        zero-at (suc k) zero = refl
-        zero-at (suc k) (suc j) = zero-at k j
+    zeros k n s = getD-drop n (replicate k 0) s 0 ∙ blank k (n + s)
 
     go : (s : ℕ) → Dec (s < length xs) → getD (xs ++ drop n (replicate k 0)) s 0 ≡ getD xs s 0
     go s (yes l) = List·getD-append xs (drop n (replicate k 0)) 0 s l

@@ -1,8 +1,8 @@
 -- Laws of sets in four words, from those of one word. Assumes nothing.
 use Prim.Native.Nat.{ℕ, zero, suc, _+_, _*_, _-_, _/_, _%_, _≤_, _<_}
 use mathlib.Core.Path.{_≡_, refl, sym, ap, ap₂, _∙_}
-use mathlib.Core.Bool.{Bool, true, false, not, _||_}
-use mathlib.Core.List.{List, [], _∷_}
+use mathlib.Core.Bool.{Bool, true, false, not, _&&_, _||_}
+use mathlib.Core.List.{List}
 use native.Mathlib.Decide.{decLt, ℕ-discrete}
 use native.Mathlib.Omega.{arith}
 use lib.Dec.{eqb}
@@ -22,6 +22,7 @@ contains-at words w k j l e =
 
 -- ---- no number, one more
 
+-- words that are all 0
 pub blank : (n i : ℕ) → getD {A = ℕ} (replicate n 0) i 0 ≡ 0
 blank zero i = refl
 blank (suc n) zero = refl
@@ -31,23 +32,31 @@ pub contains-none : (n k : ℕ) → contains (replicate n 0) k ≡ false
 unfolding contains
 contains-none n k = rw (blank n (k / 64)) (holds-none (k % 64))
 
--- two numbers of one word are the same where they are the same there
-same-there : (k j : ℕ) → j / 64 ≡ k / 64 → eqb (k % 64) (j % 64) ≡ eqb k j
-same-there k j e = go (ℕ-discrete k j)
+-- word w has number k more: what each word has
+pub words-with : (words : List ℕ) (w k x : ℕ) → w < length words → ((i : ℕ) → holds x i ≡ (eqb k i || holds (getD words w 0) i))
+    → (v j : ℕ) → holds (getD (set words w x) v 0) j ≡ ((eqb w v && eqb k j) || holds (getD words v 0) j)
+words-with words w k x l more v j = go (ℕ-discrete w v)
   where
-    go : Dec (k ≡ j) → eqb (k % 64) (j % 64) ≡ eqb k j
-    go (yes q) = eq-eqb _ _ (ap (λ (x : ℕ). x % 64) q) ∙ sym (eq-eqb k j q)
-    go (no q) = ne-eqb (k % 64) (j % 64) (λ z. q (omega arith)) ∙ sym (ne-eqb k j q)
+    go : Dec (w ≡ v) → holds (getD (set words w x) v 0) j ≡ ((eqb w v && eqb k j) || holds (getD words v 0) j)
+    go (yes e) = rw (← e, getD-set-same words w x 0 l, eq-eqb w w refl) (more j)
+    go (no e) = rw (getD-set-other words w v x 0 (λ z. e (sym z)), ne-eqb w v e)
+
+-- a number is the one that is as far on in the same word
+same-place : (k j : ℕ) → (eqb (k / 64) (j / 64) && eqb (k % 64) (j % 64)) ≡ eqb k j
+same-place k j = go (ℕ-discrete k j) (ℕ-discrete (k / 64) (j / 64))
+  where
+    go : Dec (k ≡ j) → Dec (k / 64 ≡ j / 64) → (eqb (k / 64) (j / 64) && eqb (k % 64) (j % 64)) ≡ eqb k j
+    go (yes q) _ = rw (q, eq-eqb j j refl, eq-eqb (j / 64) (j / 64) refl, eq-eqb (j % 64) (j % 64) refl)
+    go (no q) (no e) = rw (ne-eqb k j q, ne-eqb (k / 64) (j / 64) e)
+    go (no q) (yes e) = rw (ne-eqb k j q, eq-eqb (k / 64) (j / 64) e, ne-eqb (k % 64) (j % 64) (λ z. q (omega arith)))
 
 pub contains-with : (words : List ℕ) (k x : ℕ) → k / 64 < length words
     → ((i : ℕ) → holds x i ≡ (eqb (k % 64) i || holds (getD words (k / 64) 0) i))
     → (j : ℕ) → contains (set words (k / 64) x) j ≡ (eqb k j || contains words j)
 unfolding contains
-contains-with words k x l more j = go (ℕ-discrete (j / 64) (k / 64))
-  where
-    go : Dec (j / 64 ≡ k / 64) → holds (getD (set words (k / 64) x) (j / 64) 0) (j % 64) ≡ (eqb k j || holds (getD words (j / 64) 0) (j % 64))
-    go (yes e) = rw (e, getD-set-same words (k / 64) x 0 l, more (j % 64), same-there k j e)
-    go (no e) = rw (getD-set-other words (k / 64) (j / 64) x 0 e, ne-eqb k j (λ z. e (ap (λ (y : ℕ). y / 64) (sym z))))
+contains-with words k x l more j =
+    words-with words (k / 64) (k % 64) x l more (j / 64) (j % 64)
+    ∙ ap (λ (b : Bool). b || holds (getD words (j / 64) 0) (j % 64)) (same-place k j)
 
 -- ---- the smallest that is missing
 

@@ -4,7 +4,7 @@ use mathlib.Core.Path.{_≡_, refl, sym, ap, _∙_, fun-ext}
 use mathlib.Core.Bool.{Bool, true, false, not, _&&_, _||_}
 use mathlib.Core.List.{List, []}
 use mathlib.Core.Option.{Option, none, some}
-use Prim.Native.Nat.{ℕ, zero, suc, _+_, _*_, _≤_, _<_}
+use Prim.Native.Nat.{ℕ, _+_, _*_, _≤_, _<_}
 use native.Mathlib.Decide.{decLt, ℕ-discrete}
 use native.Mathlib.Omega.{arith}
 use lib.Dec.{eqb, ltb}
@@ -13,11 +13,12 @@ use lib.Seq.{getD-set-same, getD-set-other}
 use borrow.Author.Tests.{lt-ltb, le-ltb, ltb-true, ltb-false, eq-eqb, ne-eqb, eqb-true, eqb-false}
 use Rattle.meaning.specs.Search.{at}
 use Rattle.meaning.specs.Pick.{pick}
-use Rattle.meaning.specs.Cases.{impossible, cases-of, no-both, and-left, same²}
+use Rattle.meaning.specs.Cases.{impossible, cases-of, no-both, and-intro, and-left, same²}
 use Rattle.meaning.specs.Reduced.{has}
 use Rattle.meaning.specs.Trace.{target}
 use Rattle.sets.specs.Sets.{holds, Lowest}
 use Rattle.sets.proofs.Laws.{holds-none}
+use Rattle.sets.proofs.FourLaws.{blank, words-with}
 use Rattle.table.specs.Table.{Table, table, look, Rows, SameRows, withEdge, or, given}
 
 -- ---- one state at one label
@@ -58,12 +59,7 @@ look-there T s y t e = go (decLt y 64)
 
 pub look-empty : (targets : List ℕ) (k : ℕ) → look (table targets (replicate k 0)) ≡ target []
 unfolding target
-look-empty targets k = fun-ext λ s. fun-ext λ y. look-none (table targets (replicate k 0)) s y (ap (λ (x : ℕ). holds x y) (zero-at k s) ∙ holds-none y)
-  where
-    zero-at : (k s : ℕ) → _≡_ {A = ℕ} (at (replicate k 0) s) 0
-    zero-at zero s = refl
-    zero-at (suc k) zero = refl
-    zero-at (suc k) (suc s) = zero-at k s
+look-empty targets k = fun-ext λ s. fun-ext λ y. look-none (table targets (replicate k 0)) s y (ap (λ (x : ℕ). holds x y) (blank k s) ∙ holds-none y)
 
 -- where two tables have the same labels and targets they look up the same
 same-look : (T T′ : Table) (s y : ℕ) → (y < 64 → holds (at (T′ .labels) s) y ≡ holds (at (T .labels) s) y) →
@@ -82,26 +78,25 @@ module _ (T : Table) (s y t v : ℕ) (hy : y < 64) (rows : Rows T (s + 1)) (v-is
   abbrev more : Table
   more = table (set (T .targets) (s * 64 + y) t) (set (T .labels) s v)
 
-  set-here : at (more .labels) s ≡ v
-  set-here = getD-set-same (T .labels) s v 0 (omega (arith, rows .labels-long))
+  label : (a b : ℕ) → holds (at (more .labels) a) b ≡ ((eqb s a && eqb y b) || holds (at (T .labels) a) b)
+  label = words-with (T .labels) s y v (omega (arith, rows .labels-long)) v-is
 
   here : look more s y ≡ some t
   here =
-      look-some more s y hy (ap (λ (x : ℕ). holds x y) set-here ∙ v-is y ∙ rw (eq-eqb y y refl))
+      look-some more s y hy (label s y ∙ rw (eq-eqb s s refl, eq-eqb y y refl))
       ∙ ap some (getD-set-same (T .targets) (s * 64 + y) t 0 (omega (arith, rows .targets-long)))
 
-  elsewhere : (a b : ℕ) → (s ≡ a → y ≡ b → ⊥) → look more a b ≡ look T a b
-  elsewhere a b other = same-look T more a b (λ h. label (ℕ-discrete s a)) (λ h q. getD-set-other (T .targets) (s * 64 + y) (a * 64 + b) t 0 (λ z. other (omega arith) (omega arith)))
-    where
-      label : Dec (s ≡ a) → holds (at (more .labels) a) b ≡ holds (at (T .labels) a) b
-      label (no e) = ap (λ (x : ℕ). holds x b) (getD-set-other (T .labels) s a v 0 (λ z. e (sym z)))
-      label (yes e) = rw (← e) (ap (λ (x : ℕ). holds x b) set-here ∙ v-is b ∙ rw (ne-eqb y b (other e)))
+  elsewhere : (a b : ℕ) → (eqb s a && eqb y b) ≡ false → look more a b ≡ look T a b
+  elsewhere a b q =
+      same-look T more a b (λ h. label a b ∙ rw q)
+      (λ h _. getD-set-other (T .targets) (s * 64 + y) (a * 64 + b) t 0
+      (λ z. no-both {b = eqb s a && eqb y b} (and-intro (eq-eqb s a (omega arith)) (eq-eqb y b (omega arith))) q))
 
   pub look-put : look more ≡ withEdge (look T) s y t
   unfolding withEdge
   look-put = fun-ext λ a. fun-ext λ b. cases-of (eqb s a && eqb y b)
       (λ q. let w = same² s a y b q in rw (q, ← w .0, ← w .1) here)
-      (λ q. rw q (elsewhere a b (λ d e. no-both {b = eqb s a && eqb y b} (rw (eq-eqb s a d, eq-eqb y b e)) q)))
+      (λ q. rw q (elsewhere a b q))
 
 -- ---- a state given the edges of another
 
