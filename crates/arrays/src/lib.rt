@@ -29,6 +29,13 @@ pub fn filled(x: u16) -> [u16; 256]
     [x; 256]
 }
 
+// The last state there can be, everywhere.
+pub fn last_bytes() -> [u8; 256]
+    ensures { λ r. ⌜ (r ≡ replicate 256 255) × (length r ≡ 256) ⌝ }
+{
+    [255; 256]
+}
+
 pub fn zero_bytes() -> [u8; 256]
     ensures { λ r. ⌜ (r ≡ replicate 256 0) × (length r ≡ 256) ⌝ }
 {

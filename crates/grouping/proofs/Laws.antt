@@ -160,6 +160,9 @@ module _ (clashes : ℕ → ℕ → Bool) (P G : List ℕ) (c s : ℕ) where
       go true = least-max _ s
       go false = omega arith
 
+  pub group-is-low : (g : ℕ) → g ≡ groupOf clashes P c G s → g ≤ s
+  group-is-low g e = omega (arith, e, group-low)
+
 -- ---- groups
 
 module _ (clashes : ℕ → ℕ → Bool) (P : List ℕ) (c : ℕ) where

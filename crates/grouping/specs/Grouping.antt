@@ -19,7 +19,6 @@ pub record Marking (P G : List ℕ) (n c s : ℕ) : Type 0 where
   pub inside : s < n
   pub member : at P s ≡ c
   pub groups-long : length G ≡ 256
-  pub groups-low : (t : ℕ) → t < s → at G t < 256
 
 -- No group from `top` on is marked.
 abbrev pub Below : List ℕ → ℕ → Type 0

@@ -37,7 +37,7 @@ fn mark(
     labels: &[u64],
     names: &[u16; 256],
     next: &[u16; 256],
-    groups: &[u16; 256],
+    groups: &[u8; 256],
     n: usize,
     c: usize,
     s: usize,
@@ -51,7 +51,7 @@ fn mark(
     let mut top: usize = 0;
     let mut t = c;
     while t < s {
-        let group = arrays::wide(groups[t]);
+        let group = arrays::wide_byte(groups[t]);
         if unmarked(&words, top, group) {
             if conflicts::conflict(targets, labels, names, t, s) {
                 let w = group / 64;
@@ -72,7 +72,7 @@ pub fn group(
     next: &[u16; 256],
     n: usize,
     c: usize,
-    into: &mut [u16; 256],
+    into: &mut [u8; 256],
 )
     requires { ⌜ Searched (table (now targets) (now labels)) (now names) (now next) n × Heads (now names) n c
         × (now into ≡ replicate 256 0) ⌝ }
@@ -82,7 +82,7 @@ pub fn group(
     let mut s = c;
     while s < n {
         let marks = mark(targets, labels, names, next, into, n, c, s);
-        into[s] = marks.smallest_missing() as u16;
+        into[s] = marks.smallest_missing() as u8;
         s = arrays::wide(next[s]);
     }
 }

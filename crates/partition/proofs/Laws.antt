@@ -118,12 +118,12 @@ module _ (n : ℕ) (P : List ℕ) (c : ℕ) (G : List ℕ) where
   abbrev Of : ℕ → ℕ → Type 0
   Of g t = (at P t ≡ c) × (at G t ≡ g)
 
-  -- f is 65,535 where no member before s has group g, and else the first that has
+  -- f is 255 where no member before s has group g, and else the first that has. Of 255 itself nothing is known: it is the last state
   pub record First (s g f : ℕ) : Type 0 where
-    pub absent : f ≡ 65535 → (t : ℕ) → t < s → Of g t → ⊥
-    pub before : (f ≡ 65535 → ⊥) → f < s
-    pub of : (f ≡ 65535 → ⊥) → Of g f
-    pub least : (f ≡ 65535 → ⊥) → (t : ℕ) → t < f → Of g t → ⊥
+    pub absent : f ≡ 255 → (t : ℕ) → t < s → t < 255 → Of g t → ⊥
+    pub before : (f ≡ 255 → ⊥) → f < s
+    pub of : (f ≡ 255 → ⊥) → Of g f
+    pub least : (f ≡ 255 → ⊥) → (t : ℕ) → t < f → Of g t → ⊥
 
   -- the members before s are renamed, and the first of each group is known
   pub record Renamed (names firsts : List ℕ) (s : ℕ) : Type 0 where
@@ -133,13 +133,13 @@ module _ (n : ℕ) (P : List ℕ) (c : ℕ) (G : List ℕ) where
     pub still : (t : ℕ) → s ≤ t → at names t ≡ at P t
     pub known : (g : ℕ) → g < 256 → First s g (at firsts g)
 
-  pub renamed-none : (names firsts : List ℕ) → names ≡ P → length P ≡ 256 → firsts ≡ replicate 256 65535 → Renamed names firsts 0
+  pub renamed-none : (names firsts : List ℕ) → names ≡ P → length P ≡ 256 → firsts ≡ replicate 256 255 → Renamed names firsts 0
   renamed-none names firsts e l f = rw (e, f) record {
     long = l;
-    wide = length-replicate {A = ℕ} 256 65535;
+    wide = length-replicate {A = ℕ} 256 255;
     done = λ t h. absurd (omega arith);
     still = λ t h. refl;
-    known = λ g h. let e : at (replicate 256 65535) g ≡ 65535 = getD-replicate 256 g 65535 0 h in rw e record {
+    known = λ g h. let e : at (replicate 256 255) g ≡ 255 = getD-replicate 256 g 255 0 h in rw e record {
       absent = λ z t k. absurd (omega arith);
       before = λ z. absurd (z refl);
       of = λ z. absurd (z refl);
@@ -158,7 +158,7 @@ module _ (n : ℕ) (P : List ℕ) (c : ℕ) (G : List ℕ) where
           (λ q. let k : s ≤ t = ltb-false t s q in r .still t k ∙ renamed-other P c G t n (miss t k l));
       still = λ t l. r .still t (omega arith);
       known = λ g l. let f = r .known g l in record {
-        absent = λ z t k o. cases-of (ltb t s) (λ q. f .absent z t (ltb-true t s q) o) (λ q. miss t (ltb-false t s q) k (o .0));
+        absent = λ z t k b o. cases-of (ltb t s) (λ q. f .absent z t (ltb-true t s q) b o) (λ q. miss t (ltb-false t s q) k (o .0));
         before = λ z. let b = f .before z in omega arith;
         of = f .of;
         least = f .least;
@@ -177,9 +177,9 @@ module _ (n : ℕ) (P : List ℕ) (c : ℕ) (G : List ℕ) where
       -- s is of group g, so nothing new is known of others
       other : (d f : ℕ) → First s d f → (d ≡ g → ⊥) → First (s + 1) d f
       other d f w z = record {
-        absent = λ q t k o. cases-of (eqb t s)
+        absent = λ q t k b o. cases-of (eqb t s)
             (λ y. z (sym (o .1) ∙ ap (at G) (eqb-true t s y)))
-            (λ y. w .absent q t (omega (arith, eqb-false t s y)) o);
+            (λ y. w .absent q t (omega (arith, eqb-false t s y)) b o);
         before = λ q. let b = w .before q in omega arith;
         of = w .of;
         least = w .least;
@@ -202,14 +202,14 @@ module _ (n : ℕ) (P : List ℕ) (c : ℕ) (G : List ℕ) where
       Next firsts′ d = Renamed (set names s (at firsts′ d)) firsts′ (s + 1)
 
       -- s is the first of its group
-      pub renamed-new : (firsts′ : List ℕ) (d : ℕ) → d ≡ g → firsts′ ≡ set firsts d s → d < 256 → at firsts d ≡ 65535
+      pub renamed-new : (firsts′ : List ℕ) (d : ℕ) → d ≡ g → firsts′ ≡ set firsts d s → d < 256 → at firsts d ≡ 255
           → Next firsts′ d
       renamed-new firsts′ d same =
-          subst (λ (d : ℕ). firsts′ ≡ set firsts d s → d < 256 → at firsts d ≡ 65535 → Next firsts′ d) (sym same) go
+          subst (λ (d : ℕ). firsts′ ≡ set firsts d s → d < 256 → at firsts d ≡ 255 → Next firsts′ d) (sym same) go
         where
-          go : firsts′ ≡ set firsts g s → g < 256 → at firsts g ≡ 65535 → Next firsts′ g
+          go : firsts′ ≡ set firsts g s → g < 256 → at firsts g ≡ 255 → Next firsts′ g
           go u l z =
-              let alone = r .known g l .absent z in
+              let alone : (t : ℕ) → t < s → Of g t → ⊥ = λ t k. r .known g l .absent z t k (omega arith) in
               let here : at firsts′ g ≡ s = ap (λ (k : List ℕ). at k g) u ∙ getD-set-same firsts g s 0 (omega (arith, r .wide)) in
               rw here
               (named s
@@ -217,7 +217,7 @@ module _ (n : ℕ) (P : List ℕ) (c : ℕ) (G : List ℕ) where
               (ap (λ (k : List ℕ). length k) u ∙ length-set firsts g s ∙ r .wide)
               (λ d k. cases-of (eqb d g)
               (λ y. let same : d ≡ g = eqb-true d g y in rw (same, here) record {
-                absent = λ q. absurd (omega arith);
+                absent = λ q t k b. alone t (omega arith);
                 before = λ _. omega arith;
                 of = λ _. (e, refl);
                 least = λ _. alone;
@@ -227,12 +227,12 @@ module _ (n : ℕ) (P : List ℕ) (c : ℕ) (G : List ℕ) where
               rw there (other d (at firsts d) (r .known d k) z))))
 
       -- its group has a first member already
-      pub renamed-again : (firsts′ : List ℕ) (d : ℕ) → d ≡ g → firsts′ ≡ firsts → d < 256 → (at firsts d ≡ 65535 → ⊥)
+      pub renamed-again : (firsts′ : List ℕ) (d : ℕ) → d ≡ g → firsts′ ≡ firsts → d < 256 → (at firsts d ≡ 255 → ⊥)
           → Next firsts′ d
       renamed-again firsts′ d same =
-          subst (λ (d : ℕ). firsts′ ≡ firsts → d < 256 → (at firsts d ≡ 65535 → ⊥) → Next firsts′ d) (sym same) go
+          subst (λ (d : ℕ). firsts′ ≡ firsts → d < 256 → (at firsts d ≡ 255 → ⊥) → Next firsts′ d) (sym same) go
         where
-          go : firsts′ ≡ firsts → g < 256 → (at firsts g ≡ 65535 → ⊥) → Next firsts′ g
+          go : firsts′ ≡ firsts → g < 256 → (at firsts g ≡ 255 → ⊥) → Next firsts′ g
           go u l z = rw u
               (let w = r .known g l in
               let o = w .of z in
@@ -248,6 +248,10 @@ module _ (n : ℕ) (P : List ℕ) (c : ℕ) (G : List ℕ) where
                 least = w .least;
               })
               (λ y. other d (at firsts d) (r .known d k) (eqb-false d g y))))
+
+  -- the name that is stored, by another name for it
+  pub renamed-as : (names firsts : List ℕ) (s v w : ℕ) → Renamed (set names s v) firsts (s + 1) → w ≡ v → Renamed (set names s w) firsts (s + 1)
+  renamed-as names firsts s v w r e = rw e r
 
   pub renamed-all : (names firsts : List ℕ) (s : ℕ) → Renamed names firsts s → n ≤ s → n ≤ 256
       → take n names ≡ tab n (renamed n P c G)

@@ -67,16 +67,17 @@ impl Partition {
     {
         let mut names = self.names;
         let rounds = self.rounds;
-        let mut groups = arrays::filled(0);
+        let mut groups = arrays::zero_bytes();
         grouping::group(targets, labels, &names, next, n, c, &mut groups);
-        let mut firsts = arrays::fresh();
+        // by group: its first member, 255 until there is one. No state comes behind 255, so that it may stand for both.
+        let mut firsts = arrays::last_bytes();
         let mut s = c;
         while s < n {
-            let g = arrays::wide(groups[s]);
-            if firsts[g] == 65535 {
-                firsts[g] = s as u16;
+            let g = arrays::wide_byte(groups[s]);
+            if firsts[g] == 255 {
+                firsts[g] = s as u8;
             }
-            names[s] = firsts[g];
+            names[s] = arrays::wide_byte(firsts[g]) as u16;
             s = arrays::wide(next[s]);
         }
         Partition {

@@ -2,12 +2,13 @@
 use Prim.Native.Nat.{_≤_, _+_, _-_}
 use borrow.Author.Needs.{needs}
 use native.Mathlib.Omega.{arith}
+use mathlib.Core.Path.{_≡_}
 use denote.Ref.{now}
 use Rattle.table.specs.Table.{table}
 use Rattle.conflicts.specs.Conflicts.{clash}
 use Rattle.members.proofs.Laws.{Standing, Hop, at-head, hop}
 use Rattle.grouping.specs.Grouping.{Grouped}
-use Rattle.grouping.proofs.Laws.{grouped-none, grouped-more, grouped-skip, grouped-all, grouped-le, group-marked}
+use Rattle.grouping.proofs.Laws.{grouped-none, grouped-more, grouped-skip, grouped-all, grouped-le, groupOf, group-marked, group-is-low}
 use Rattle.grouping.proofs.group.Statement.{statement}
 use Rattle.grouping.proofs.group.Tie as tie
 
@@ -37,9 +38,28 @@ mark-requires c κs =
         inside = here;
         member = loop .loop .inv .0 .member here;
         groups-long = loop .loop .inv .1 .long;
-        groups-low = loop .loop .inv .1 .low;
       },
     )
+
+-- the smallest group without a mark is the group of s
+chosen : (c : tie.After-smallest-missing Inv-loop μ-loop)
+    → let loop = c .before .before .before .before in
+    let a = loop .before .before .before .args in
+    c .smallest-missing .result
+    ≡ groupOf (clash (table (now (a .targets)) (now (a .labels))) (now (a .names))) (now (a .names)) (a .c) (loop .loop .into) (loop .loop .s)
+chosen c =
+    let loop = c .before .before .before .before in
+    let s = loop .loop .s in
+    let here = c .before .before .before .loop-test .taken in
+    let few = loop .before .before .before .pre .0 .few in
+    group-marked _ _ _ _ s _ _ (omega (arith, here, few)) (loop .loop .inv .0 .member here) (grouped-le _ _ _ _ s (loop .loop .inv .1))
+    (c .before .mark .ensures) (c .smallest-missing .ensures .1)
+
+cast-into : tie.Need-cast-into Inv-loop μ-loop
+cast-into c =
+    let loop = c .before .before .before .before in
+    let here = c .before .before .before .loop-test .taken in
+    record { fits = omega (arith, group-is-low _ _ _ _ _ _ (chosen c), here, loop .before .before .before .pre .0 .few) }
 
 element-write-into : tie.Need-element-write-into Inv-loop μ-loop
 element-write-into c = omega (arith, c .before .before .before .before .loop .inv .1 .long)
@@ -63,10 +83,7 @@ loop-again c =
     let next = step c in
     let s = loop .loop .s in
     let here = c .before .before .before .before .before .loop-test .taken in
-    let member = loop .loop .inv .0 .member here in
-    let low = grouped-le _ _ _ _ s (loop .loop .inv .1) in
-    let chosen = group-marked _ _ _ _ s _ _ (omega arith) member low (c .before .before .before .mark .ensures) (c .before .before .smallest-missing .ensures .1) in
-    let more = grouped-more _ _ _ _ s _ (loop .loop .inv .1) (omega arith) chosen in
+    let more = grouped-more _ _ _ _ s _ (loop .loop .inv .1) (omega arith) (chosen (c .before .before)) in
     let within : c .wide .result ≤ 256 = omega (arith, next .stands .inside) in
     (next .stands, grouped-skip _ _ _ _ (s + 1) _ more (omega (arith, next .after)) within (λ x h l. next .gap x (omega arith) l))
 
@@ -82,8 +99,7 @@ group-spec =
     loop-holds
     mark-requires
     (λ c κs. search needs)
-    (λ c. record { fits = omega (arith, c .smallest-missing .ensures .0) })
-    (λ c. search needs)
+    cast-into
     element-write-into
     (λ c. search needs)
     (λ c. search needs)

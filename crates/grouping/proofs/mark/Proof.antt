@@ -32,26 +32,19 @@ loop-holds c =
       marked-skip _ _ _ _ _ _ _ 0 (marked-none _ _ _ _ _) _ (omega arith) (λ x h l. head .before x l),
     )
 
--- a group has a place of its own
-group-low : (c : tie.After-wide Inv-loop μ-loop) → c .wide .result < 256
-group-low c =
-    let loop = c .before .before .before in
-    let low = loop .before .before .before .pre .2 .groups-low (loop .loop .t) (c .before .before .loop-test .taken) in
-    omega (arith, low, c .wide .ensures)
-
 unmarked-requires : tie.Need-unmarked-requires Inv-loop μ-loop
 unmarked-requires c κs =
     let marked = c .before .before .before .before .loop .inv .2 in
-    (marked .below, group-low (c .before), marked .long)
+    (marked .below, c .before .wide-byte .ensures .1, marked .long)
 
-step : (c : tie.After-wide2 Inv-loop μ-loop)
+step : (c : tie.After-wide Inv-loop μ-loop)
     → let loop = c .before .before .before .before .before .before .before .before in
     let a = loop .before .before .before .args in
-    Hop (now (a .names)) (a .n) (a .c) (loop .loop .t) (c .wide2 .result)
+    Hop (now (a .names)) (a .n) (a .c) (loop .loop .t) (c .wide .result)
 step c =
     let loop = c .before .before .before .before .before .before .before .before in
     let pre = loop .before .before .before .pre in
-    hop _ _ _ (pre .0 .linked) _ _ _ (loop .loop .inv .1) (omega (arith, pre .2 .inside)) (c .wide2 .ensures)
+    hop _ _ _ (pre .0 .linked) _ _ _ (loop .loop .inv .1) (omega (arith, pre .2 .inside)) (c .wide .ensures)
 
 loop-less : tie.Need-loop-less Inv-loop μ-loop
 loop-less c = let next = step c in
@@ -67,16 +60,15 @@ loop-again c =
     let inv = loop .loop .inv in
     let next = step c in
     let t = loop .loop .t in
-    let low = pre .2 .groups-low t here in
-    let is = group .wide .ensures in
+    let is = group .wide-byte .ensures in
     let member = inv .1 .member (omega (arith, pre .2 .inside)) in
     let behind = ⊎-elim
-    (λ w. marked-more _ _ _ _ _ _ _ t (inv .2) _ _ _ _ (w .5) (w .3 .ensures) is (group-low group) (omega (arith, w .6, w .4 .ensures .0))
+    (λ w. marked-more _ _ _ _ _ _ _ t (inv .2) _ _ _ _ (w .5) (w .3 .ensures) (is .0) (is .1) (omega (arith, w .6, w .4 .ensures .0))
     (omega (arith, w .6, w .4 .ensures .1)) member (sym (w .1 .ensures) ∙ w .2 .taken))
     (⊎-elim
     (λ w. marked-calm _ _ _ _ _ _ _ t (inv .2) _ _ (w .3) (w .4) (sym (w .1 .ensures) ∙ w .2 .left))
-    (λ w. marked-again _ _ _ _ _ _ _ t (inv .2) _ _ (w .1) (w .2) low
-    (ap (contains (loop .loop .words)) (sym is) ∙ not-false _ (sym (asked .unmarked .ensures) ∙ w .0 .left))))
+    (λ w. marked-again _ _ _ _ _ _ _ t (inv .2) _ _ (w .1) (w .2) (rw (← is .0) (is .1))
+    (ap (contains (loop .loop .words)) (sym (is .0)) ∙ not-false _ (sym (asked .unmarked .ensures) ∙ w .0 .left))))
     (c .before .before .if1 .came) in (
       next-until _ _ _ _ _ _ next here (pre .2 .member),
       next .stands,
@@ -94,16 +86,15 @@ mark-spec =
     μ-loop
     loop-holds
     (λ c. search needs)
-    (λ c. search needs)
     (λ c κs. search needs)
     unmarked-requires
     (λ c κs. search needs)
     (λ c. search needs)
-    (λ c. omega (arith, group-low (c .before .before .before .before .before)))
+    (λ c. omega (arith, c .before .before .before .before .before .wide-byte .ensures .1))
     (λ c κs. search needs)
     (λ c. search needs)
-    (λ c. omega (arith, group-low (c .before .before .before .before .before .before)))
-    (λ c. omega (arith, group-low (c .before .before .before .before .before .before)))
+    (λ c. omega (arith, c .before .before .before .before .before .before .wide-byte .ensures .1))
+    (λ c. omega (arith, c .before .before .before .before .before .before .wide-byte .ensures .1))
     (λ c κs. search needs)
     (λ c. search needs)
     (λ c. search needs)

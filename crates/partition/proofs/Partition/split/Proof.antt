@@ -1,12 +1,12 @@
 -- `partition::Partition::split` meets its contract. The invariant: the members before s have their new names, and the first of
 -- each group is known. Assumes nothing.
-use Prim.Native.Nat.{_<_, _+_, _-_}
+use Prim.Native.Nat.{_+_, _-_}
 use borrow.Author.Needs.{needs}
 use native.Mathlib.Omega.{arith}
 use mathlib.Core.Path.{refl, _∙_}
 use mathlib.Core.Logic.{⊎-elim}
 use Rattle.members.proofs.Laws.{Standing, Hop, at-head, hop}
-use Rattle.partition.proofs.Laws.{Renamed, renamed-none, renamed-skip, renamed-new, renamed-again, renamed-all, rounded-by}
+use Rattle.partition.proofs.Laws.{Renamed, renamed-none, renamed-skip, renamed-new, renamed-again, renamed-as, renamed-all, rounded-by}
 use Rattle.partition.proofs.Partition.split.Statement.{statement}
 use Rattle.partition.proofs.Partition.split.Tie as tie
 
@@ -20,29 +20,23 @@ abbrev μ-loop : tie.MeasureT-loop
 group-requires : tie.Need-group-requires Inv-loop μ-loop
 group-requires c κs =
     let pre = c .before .before .before .before .before .before .pre in
-    (pre .0, pre .1, c .before .before .filled .ensures .0)
+    (pre .0, pre .1, c .before .before .zero-bytes .ensures .0)
 
 loop-holds : tie.Need-loop-holds Inv-loop μ-loop
 loop-holds c =
     let pre = c .before .before .before .before .before .before .before .before .pre in
     let head = pre .1 in
-    let none = renamed-none _ _ _ _ _ _ refl (pre .0 .names-long) (c .fresh .ensures .0) in
+    let none = renamed-none _ _ _ _ _ _ refl (pre .0 .names-long) (c .last-bytes .ensures .0) in
     (at-head _ _ _ head, renamed-skip _ _ _ _ _ _ 0 none _ (omega arith) (λ x h l. head .before x l))
 
--- a group has a place of its own
-group-low : (c : tie.After-wide Inv-loop μ-loop) → c .wide .result < 256
-group-low c =
-    let low = c .before .before .before .before .group .ensures .low (c .before .before .loop .s) (c .before .loop-test .taken) in
-    omega (arith, low, c .wide .ensures)
-
-step : (c : tie.After-wide2 Inv-loop μ-loop)
-    → let loop = c .before .before .before .before .before in
+step : (c : tie.After-wide Inv-loop μ-loop)
+    → let loop = c .before .before .before .before .before .before in
     let a = loop .before .before .before .before .before .before .before .before .before .args in
-    Hop (a .self .names) (a .n) (a .c) (loop .loop .s) (c .wide2 .result)
+    Hop (a .self .names) (a .n) (a .c) (loop .loop .s) (c .wide .result)
 step c =
-    let loop = c .before .before .before .before .before in
+    let loop = c .before .before .before .before .before .before in
     let linked = loop .before .before .before .before .before .before .before .before .before .pre .0 .linked in
-    hop _ _ _ linked _ _ _ (loop .loop .inv .0) (c .before .before .before .before .loop-test .taken) (c .wide2 .ensures)
+    hop _ _ _ linked _ _ _ (loop .loop .inv .0) (c .before .before .before .before .before .loop-test .taken) (c .wide .ensures)
 
 loop-less : tie.Need-loop-less Inv-loop μ-loop
 loop-less c = let next = step c in
@@ -50,20 +44,22 @@ loop-less c = let next = step c in
 
 loop-again : tie.Need-loop-again Inv-loop μ-loop
 loop-again c =
-    let loop = c .before .before .before .before .before in
-    let here = c .before .before .before .before .loop-test .taken in
+    let named = c .before .before in
+    let group = named .before .before in
+    let loop = group .before .before in
+    let here = group .before .loop-test .taken in
     let pre = loop .before .before .before .before .before .before .before .before .before .pre in
     let next = step c in
     let s = loop .loop .s in
     let before = loop .loop .inv .1 in
     let member = loop .loop .inv .0 .member here in
-    let is = c .before .before .before .wide .ensures in
-    let low = group-low (c .before .before .before) in
+    let is = group .wide-byte .ensures in
     let more = ⊎-elim
-    (λ w. renamed-new _ _ _ _ _ _ s before here (pre .0 .few) member _ _ is (w .1) low (w .0 .taken))
-    (λ w. renamed-again _ _ _ _ _ _ s before here (pre .0 .few) member _ _ is (w .1) low (w .0 .left))
-    (c .before .before .if1 .came) in
-    (next .stands, renamed-skip _ _ _ _ _ _ (s + 1) more _ (omega (arith, next .after)) (λ x h l. next .gap x (omega arith) l))
+    (λ w. renamed-new _ _ _ _ _ _ s before here (pre .0 .few) member _ _ (is .0) (w .1) (is .1) (w .0 .taken))
+    (λ w. renamed-again _ _ _ _ _ _ s before here (pre .0 .few) member _ _ (is .0) (w .1) (is .1) (w .0 .left))
+    (named .before .if1 .came) in
+    let stored = renamed-as _ _ _ _ (loop .loop .names) _ s _ _ more (named .wide-byte2 .ensures .0) in
+    (next .stands, renamed-skip _ _ _ _ _ _ (s + 1) stored _ (omega (arith, next .after)) (λ x h l. next .gap x (omega arith) l))
 
 returns : tie.Need-returns Inv-loop μ-loop
 returns c =
@@ -89,15 +85,13 @@ split-spec =
     (λ c κs. search needs)
     loop-holds
     (λ c. search needs)
-    (λ c. search needs)
     (λ c κs. search needs)
-    (λ c. omega (arith, group-low c))
-    (λ c. omega (arith, group-low c))
+    (λ c. omega (arith, c .wide-byte .ensures .1))
     (λ c. search needs)
-    (λ c. omega (arith, group-low (c .before)))
-    (λ c. omega (arith, group-low (c .before)))
-    (λ c. omega (arith, group-low (c .before)))
-    (λ c. omega (arith, group-low (c .before)))
+    (λ c. omega (arith, c .before .wide-byte .ensures .1))
+    (λ c. omega (arith, c .before .wide-byte .ensures .1))
+    (λ c κs. search needs)
+    (λ c. record { fits = omega (arith, c .wide-byte2 .ensures .1) })
     (λ c. search needs)
     (λ c. search needs)
     (λ c. search needs)
