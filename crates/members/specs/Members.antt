@@ -38,6 +38,19 @@ pub record Heads (P : List ℕ) (n c : ℕ) : Type 0 where
   pub member : at P c ≡ c
   pub before : (s : ℕ) → s < c → at P s ≡ c → ⊥
 
+-- What relinking is lent: links by older names, of which only the members of class c have others since, each the name of a member
+-- of it.
+pub record Relinkable (P next : List ℕ) (n c : ℕ) : Type 0 where
+  pub few : n ≤ 256
+  pub names-long : length P ≡ 256
+  pub old : List ℕ
+  pub linked : Linked old n next
+  pub heads : Heads old n c
+  pub own : (s : ℕ) → s < n → at old s < n → at old (at old s) ≡ at old s
+  pub kept : (s : ℕ) → s < n → (at old s ≡ c → ⊥) → at P s ≡ at old s
+  pub low : (s : ℕ) → s < n → at old s ≡ c → at P s < n
+  pub within : (s : ℕ) → s < n → at old s ≡ c → at old (at P s) ≡ c
+
 -- What a search over classes is lent: the edges of n states, their names, and who follows whom.
 pub record Searched (T : Table) (P next : List ℕ) (n : ℕ) : Type 0 where
   pub few : n ≤ 256

@@ -14,7 +14,7 @@ use Rattle.meaning.specs.SearchLaws.{least-ok, least-cong, tab-cong, count-cong
 use Rattle.meaning.specs.Classes.{Task, Classes, initial, parted, first, free, groups, split, named, classes}
 use Rattle.meaning.specs.Classes.{round, chosen, begin, cut, run, reduction}
 use Rattle.meaning.specs.Cases.{cases-of, no-both}
-use Rattle.meaning.specs.ClassesLaws.{Named, groups-apart}
+use Rattle.meaning.specs.ClassesLaws.{Named, groups-apart, split-out, split-class, split-all}
 use Rattle.meaning.specs.Reduced.{Grouping, apart, conflict, taskOver}
 use Rattle.meaning.specs.Reduction.{Fair, Good, Kept, good-live, initial-good, cut-kept, classes-some, classes-max}
 use Rattle.meaning.specs.Reach.{among, reached}
@@ -24,7 +24,7 @@ use Rattle.conflicts.specs.Conflicts.{clash}
 use Rattle.conflicts.proofs.Laws.{and-false, clash-labels}
 use Rattle.reach.specs.Walking.{those}
 use Rattle.reach.proofs.Laws.{those-among, those-rise}
-use Rattle.members.specs.Members.{Heads, Seated, Linkable, Linked, Searched}
+use Rattle.members.specs.Members.{Heads, Seated, Linkable, Relinkable, Linked, Searched}
 use Rattle.members.proofs.Laws.{heads}
 use Rattle.pairs.proofs.Laws.{parted-front, parted-own}
 use Rattle.partition.specs.Partition.{twin, beginning, rounded, Holds}
@@ -105,6 +105,13 @@ module _ (n : ℕ) (clashes : ℕ → ℕ → Bool) (P : List ℕ) where
 classes-front : (n : ℕ) (P : List ℕ) → classes n P ≡ classes n (take n P)
 unfolding classes
 classes-front n P = count-cong (named P) (named (take n P)) n (λ s h. ap (λ (k : ℕ). eqb k s) (sym (at-take P n s h)))
+
+-- names that are right at the front are right
+named-all : (n : ℕ) (P : List ℕ) → Named n (take n P) → Named n P
+named-all n P r = record {
+  low = λ s h l. let e = at-take P n s h in rw e at (r .low s h (rw e l));
+  own = λ s h l. let e = at-take P n s h in sym (at-take P n (at P s) l) ∙ ap (at (take n P)) (sym e) ∙ r .own s h (rw e l) ∙ e;
+}
 
 -- names of targets are names of states
 module _ (T : Table) (n : ℕ) (inside : (s y t : ℕ) → look T s y ≡ some t → t < n) (P : List ℕ) where
@@ -220,6 +227,30 @@ module _ (live : List ℕ) (T : Table) (hues : List ℕ) (n : ℕ) where
           heads n P running-named c l (cases-of (eqb (at P c) c)
           (λ q. eqb-true _ _ q)
           (λ q. no-both hit (parted-own n (clash T P) P running-named c l (eqb-false _ _ q))))
+
+      -- after a round its links can be made anew
+      pub running-relinkable : (R : Partition) (c : ℕ) → c ≡ taken Q → c < n
+          → Holds R n (rounded groups n (clash T (Q .names)) (Q .names) c) (Q .rounds + 1)
+          → (next : List ℕ) → Linked (Q .names) n next → Relinkable (R .names) next n c
+      unfolding rounded
+      running-relinkable R c e l h next linked =
+          let P = Q .names in
+          let G = groups (λ s. eqb (at P s) c) (clash T P) n in
+          let head = running-heads c e l in
+          let nm = named-all n P running-named in
+          let new : (s : ℕ) → s < n → at (R .names) s ≡ at (split n P c G) s = λ s k.
+          sym (at-take (R .names) n s k) ∙ ap (λ (xs : List ℕ). at xs s) (h .names) in
+          record {
+            few = lent .few;
+            names-long = h .long;
+            old = P;
+            linked = linked;
+            heads = head;
+            own = nm .own;
+            kept = λ s k z. new s k ∙ split-out n P nm c l (head .member) G s k z;
+            low = λ s k m. omega (arith, new s k, split-all n P nm c l (head .member) G s k (omega arith));
+            within = λ s k m. ap (at P) (new s k) ∙ split-class n P nm c l (head .member) G s k (omega arith) ∙ m;
+          }
 
       pub running-on : (R : Partition) (c : ℕ) → c ≡ taken Q → c < n
           → Holds R n (rounded groups n (clash T (Q .names)) (Q .names) c) (Q .rounds + 1) → Running R

@@ -27,18 +27,19 @@ fn settle(
     ensures { λ r. ⌜ Settled r (taskOf (among (now (live .entry))) groups (table (now (targets .entry)) (now (labels .entry)))
         (now (colours .entry)) n) ⌝ }
 {
-    let first = partition::initial(colours, live);
-    let mut p = first;
+    let mut p = partition::initial(colours, live);
+    let count = members::count(&p.names, n); // counted here, so that the first classes need not be kept
+    members::follow(&p.names, live, n, next);
     loop {
-        members::follow(&p.names, live, n, next);
         let c = pairs::first_parted(targets, labels, &p.names, next, live, n);
         if n <= c {
             break;
         }
         p = p.split(targets, labels, next, n, c);
+        members::relink(&p.names, n, c, next);
     }
     Ending {
-        colours: members::count(&first.names, n),
+        colours: count,
         last: p,
     }
 }
