@@ -10,7 +10,7 @@
 
 enum status { ACCEPTED = 0, REFUSED = 1, FAILED = 2 };
 
-static const char version[] = "pierhollow 2\n";
+static const char version[] = "pierhollow 3\n";
 
 static const char help[] =
     "Usage: pierhollow COMMAND [-o FILE] [FILE]\n"

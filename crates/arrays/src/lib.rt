@@ -30,7 +30,7 @@ pub fn filled(x: u16) -> [u16; 256]
 }
 
 // The last state there can be, everywhere.
-pub fn last_bytes() -> [u8; 256]
+pub fn last_states() -> [u8; 256]
     ensures { λ r. ⌜ (r ≡ replicate 256 255) × (length r ≡ 256) ⌝ }
 {
     [255; 256]

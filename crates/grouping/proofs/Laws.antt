@@ -53,14 +53,14 @@ module _ (clashes : ℕ → ℕ → Bool) (P G : List ℕ) (c s : ℕ) where
   pub record Marked (marks : List ℕ) (top t : ℕ) : Type 0 where
     pub long : length marks ≡ 4
     pub below : Below marks top
-    pub says : (g : ℕ) → g < 256 → contains marks g ≡ taken clashes P G c s g t
+    pub marked : Marks clashes P G c s marks t
 
   pub marked-none : Marked (replicate 4 0) 0 0
   unfolding taken any
   marked-none = record {
     long = length-replicate {A = ℕ} 4 0;
     below = λ g h. contains-none 4 g;
-    says = λ g h. contains-none 4 g;
+    marked = record { says = λ g h. contains-none 4 g };
   }
 
   taken-next : (g t : ℕ)
@@ -74,7 +74,7 @@ module _ (clashes : ℕ → ℕ → Bool) (P G : List ℕ) (c s : ℕ) where
     as-before now top′ u e f h = rw (e, f) record {
       long = r .long;
       below = r .below;
-      says = λ g l. r .says g l ∙ sym (h g);
+      marked = record { says = λ g l. r .marked .says g l ∙ sym (h g) };
     }
 
     -- states that are no members mark nothing
@@ -94,7 +94,7 @@ module _ (clashes : ℕ → ℕ → Bool) (P G : List ℕ) (c s : ℕ) where
             → (eqb (at P t) c && (clashes t s && eqb (at G t) g)) || taken clashes P G c s g t ≡ taken clashes P G c s g t
         same g q =
             let all : taken clashes P G c s g t ≡ true =
-            ap (λ (k : ℕ). taken clashes P G c s k t) (sym (eqb-true (at G t) g q)) ∙ sym (r .says (at G t) l) ∙ h in
+            ap (λ (k : ℕ). taken clashes P G c s k t) (sym (eqb-true (at G t) g q)) ∙ sym (r .marked .says (at G t) l) ∙ h in
             rw (all, or-right (eqb (at P t) c && (clashes t s && eqb (at G t) g)) refl)
 
         other : (g : ℕ) → eqb (at G t) g ≡ false
@@ -108,14 +108,16 @@ module _ (clashes : ℕ → ℕ → Bool) (P G : List ℕ) (c s : ℕ) where
     marked-more now top′ group x e more is low h l member k = rw e record {
       long = length-set marks (group / 64) x ∙ r .long;
       below = λ g b. said g ∙ ap (λ (z : Bool). z || contains marks g) (ne-eqb group g (λ q. omega arith)) ∙ r .below g (omega arith);
-      says = λ g b. said g ∙ ap₂ (λ (i : ℕ) (z : Bool). eqb i g || z) is (r .says g b) ∙ sym (taken-next g t ∙ rw (eq-eqb _ _ member, k));
+      marked = record {
+        says = λ g b. said g ∙ ap₂ (λ (i : ℕ) (z : Bool). eqb i g || z) is (r .marked .says g b) ∙ sym (taken-next g t ∙ rw (eq-eqb _ _ member, k));
+      };
     }
       where
         said : (g : ℕ) → contains (set marks (group / 64) x) g ≡ (eqb group g || contains marks g)
         said = contains-with marks group x (omega (arith, r .long)) more
 
     pub marked-all : t ≡ s → Marks clashes P G c s marks s
-    marked-all e = record { says = λ g l. r .says g l ∙ ap (taken clashes P G c s g) e }
+    marked-all e = subst (Marks clashes P G c s marks) e (r .marked)
 
   -- the groups before s are all below it, so that s itself is free
   own-free : ((t : ℕ) → t < s → at P t ≡ c → at G t ≤ t) → taken clashes P G c s s s ≡ false

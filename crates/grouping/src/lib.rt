@@ -20,7 +20,7 @@ fn larger(a: usize, b: usize) -> usize
     a
 }
 
-// Whether a group is not marked. No group from `top` on is, which spares the look into the words for most.
+// Whether a group is not marked. From `top` on none is marked, which spares the look into the words for most.
 fn unmarked(words: &[u64; 4], top: usize, group: usize) -> bool
     requires { ⌜ Below (now words) top × (group < 256) × (length (now words) ≡ 4) ⌝ }
     ensures { λ r. ⌜ r ≡ not (contains (now (words .entry)) group) ⌝ }

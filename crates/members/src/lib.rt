@@ -27,7 +27,7 @@ pub fn relink(names: &[u16; 256], n: usize, c: usize, next: &mut [u16; 256])
     requires { ⌜ Relinkable (now names) (now next) n c ⌝ }
     ensures { λ _. ⌜ Linked (now (names .entry)) n (now (next .exit)) ⌝ }
 {
-    let mut latest = arrays::fresh(); // by name: the last of the members that are linked already
+    let mut latest = arrays::fresh(); // by name: the last of the members that are linked already, 65,535 where there is none
     let mut s = c;
     while s < n {
         let behind = arrays::wide(next[s]);

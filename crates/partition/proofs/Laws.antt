@@ -249,7 +249,7 @@ module _ (n : ℕ) (P : List ℕ) (c : ℕ) (G : List ℕ) where
               })
               (λ y. other d (at firsts d) (r .known d k) (eqb-false d g y))))
 
-  -- the name that is stored, by another name for it
+  -- an equal number may be stored instead
   pub renamed-as : (names firsts : List ℕ) (s v w : ℕ) → Renamed (set names s v) firsts (s + 1) → w ≡ v → Renamed (set names s w) firsts (s + 1)
   renamed-as names firsts s v w r e = rw e r
 

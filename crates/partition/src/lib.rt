@@ -70,7 +70,7 @@ impl Partition {
         let mut groups = arrays::zero_bytes();
         grouping::group(targets, labels, &names, next, n, c, &mut groups);
         // by group: its first member, 255 until there is one. No state comes behind 255, so that it may stand for both.
-        let mut firsts = arrays::last_bytes();
+        let mut firsts = arrays::last_states();
         let mut s = c;
         while s < n {
             let g = arrays::wide_byte(groups[s]);

@@ -28,7 +28,7 @@ fn settle(
         (now (colours .entry)) n) ⌝ }
 {
     let mut p = partition::initial(colours, live);
-    let count = members::count(&p.names, n); // counted here, so that the first classes need not be kept
+    let distinct = members::count(&p.names, n); // counted here, so that the first classes need not be kept
     members::follow(&p.names, live, n, next);
     loop {
         let c = pairs::first_parted(targets, labels, &p.names, next, live, n);
@@ -39,7 +39,7 @@ fn settle(
         members::relink(&p.names, n, c, next);
     }
     Ending {
-        colours: count,
+        colours: distinct,
         last: p,
     }
 }

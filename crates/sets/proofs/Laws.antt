@@ -1,8 +1,8 @@
 -- Laws of sets in a word, by the digits of a number, lowest first. Assumes nothing.
-use Prim.Native.Nat.{ℕ, zero, suc, _+_, _*_, _-_, _/_, _%_, _^_, _≤_, _<_}
-use mathlib.Core.Path.{_≡_, refl, sym, ap, ap₂, _∙_}
+use Prim.Native.Nat.{ℕ, zero, suc, _-_, _/_, _%_, _^_, _≤_, _<_}
+use mathlib.Core.Path.{_≡_, refl, sym, ap, _∙_}
 use mathlib.Core.Bool.{Bool, true, false, not, _&&_, _||_}
-use native.Mathlib.Nat.{pow-suc, pow-succ', div-one, div-div-eq-div-mul, div-eq-of-lt, mod-lt}
+use native.Mathlib.Nat.{pow-suc, pow-succ', div-one, div-div-eq-div-mul, div-eq-of-lt}
 use native.Mathlib.Decide.{decLt, ℕ-discrete}
 use native.Mathlib.Omega.{arith}
 use lib.Bits.{bitAnd, bitOr, bitXor, and-shr, and-mod, or-shr, or-mod, xor-shr, xor-mod}

@@ -44,7 +44,7 @@ pub fn less(a: u64, b: u64) -> u64
 }
 
 // The numbers below 64 that are not in the set.
-pub fn others(set: u64) -> u64
+fn others(set: u64) -> u64
     ensures { λ r. ⌜ ((j : ℕ) → j < 64 → holds r j ≡ not (holds set j)) ⌝ }
 {
     !set

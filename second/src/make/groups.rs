@@ -7,15 +7,16 @@ use crate::file::{Edge, Filter};
 use crate::make::reduces::with_enough_room;
 use crate::random::Random;
 
-/// So many groups are the first of a word of 64, its last, and the most that there can be: a class of all 256 states would have
-/// no other to conflict about.
+/// With so many groups the last of them is the first of a word of 64, or the last of one, or the last that there can be: a class
+/// of all 256 states would have no other to conflict about.
 pub const MANY_GROUPS: [u64; 5] = [65, 128, 129, 193, 255];
 
 const BITS: u64 = 8;
 
-/// A class of so many members that needs so many groups. The first members have a code each and all eight labels; each of the
-/// others has the code of one of them and some of its labels, and may join any group that does not gainsay these. At one label
-/// more the members lead to each other, so that the start leads to all of them.
+/// A class of so many members that needs so many groups. The first members have a code each and all eight labels. One more
+/// member is a copy of the last but one of them, so that it joins the last group but one. Each further one has the code of one of
+/// them and all or some of its labels, and may join any group that does not gainsay these. At one label more the members lead to
+/// each other, so that the start leads to all of them.
 pub fn crowd(random: &mut Random, groups: u64, members: u64) -> Filter {
     let other = random.between(0, members);
     let states: Vec<u64> = (0..=members).filter(|&state| state != other).collect();
@@ -25,10 +26,13 @@ pub fn crowd(random: &mut Random, groups: u64, members: u64) -> Filter {
     let missing = random.pick(&[None, Some(6), Some(2)]);
     let mut edges = Vec::new();
     for (i, &source) in states.iter().enumerate() {
-        let own = codes.get(i).copied();
-        let code = own.unwrap_or_else(|| random.pick(codes));
+        let code = match i.checked_sub(codes.len()) {
+            None => codes[i],
+            Some(0) => codes[codes.len() - 2],
+            Some(_) => random.pick(codes),
+        };
         for bit in 0..BITS {
-            if own.is_none() && missing.is_some_and(|times| random.once_in(times)) {
+            if i > codes.len() && missing.is_some_and(|times| random.once_in(times)) {
                 continue;
             }
             let target = match code >> bit & 1 {
@@ -61,15 +65,18 @@ pub fn crowd(random: &mut Random, groups: u64, members: u64) -> Filter {
     }
 }
 
-/// As many members as groups, and more; and any number of groups in as many members as there can be.
+/// Each of these numbers with more members where there can be more, so that a group of each word but the last is joined; then as
+/// many members as there can be, with groups that reach into the last word and with fewer; and as many members as groups.
 pub fn many_groups(random: &mut Random) -> Vec<Case> {
     let mut filters = Vec::new();
     for groups in MANY_GROUPS {
-        let members = random.between(groups, 255);
-        filters.push(crowd(random, groups, groups));
+        let members = random.between(255.min(groups + 1), 255);
         filters.push(crowd(random, groups, members));
     }
-    let groups = random.between(2, 254);
-    filters.push(crowd(random, groups, 255));
+    for groups in [random.between(194, 254), random.between(2, 193)] {
+        filters.push(crowd(random, groups, 255));
+    }
+    let groups = random.pick(&MANY_GROUPS);
+    filters.push(crowd(random, groups, groups));
     with_enough_room(&filters, random)
 }

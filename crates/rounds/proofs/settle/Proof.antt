@@ -14,11 +14,11 @@ use Rattle.rounds.proofs.settle.Statement.{statement}
 use Rattle.rounds.proofs.settle.Tie as tie
 
 abbrev Inv-loop : tie.InvT-loop
-Inv-loop targets labels colours live n next₀ p₀ count next p =
+Inv-loop targets labels colours live n next₀ p₀ distinct next p =
     Running live (table targets labels) colours n p × Linked (p .names) n next
 
 abbrev μ-loop : tie.MeasureT-loop
-μ-loop targets labels colours live n next₀ p₀ count next p = n - p .rounds
+μ-loop targets labels colours live n next₀ p₀ distinct next p = n - p .rounds
 
 initial-requires : tie.Need-initial-requires Inv-loop μ-loop
 initial-requires c κs =

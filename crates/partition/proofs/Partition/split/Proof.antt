@@ -26,7 +26,7 @@ loop-holds : tie.Need-loop-holds Inv-loop μ-loop
 loop-holds c =
     let pre = c .before .before .before .before .before .before .before .before .pre in
     let head = pre .1 in
-    let none = renamed-none _ _ _ _ _ _ refl (pre .0 .names-long) (c .last-bytes .ensures .0) in
+    let none = renamed-none _ _ _ _ _ _ refl (pre .0 .names-long) (c .last-states .ensures .0) in
     (at-head _ _ _ head, renamed-skip _ _ _ _ _ _ 0 none _ (omega arith) (λ x h l. head .before x l))
 
 step : (c : tie.After-wide Inv-loop μ-loop)
