@@ -151,15 +151,34 @@ static inline unsigned target_of(unsigned edge)
     return edge & (MOST_STATES - 1);
 }
 
+/* Where an edge's parts stand, for a refusal to say: bits of a file, or the edge's index three times. */
+struct places {
+    size_t source, label, target;
+};
+
+static inline struct places places_in_file(size_t bit)
+{
+    return (struct places){bit, bit + STATE_BITS, bit + STATE_BITS + LABEL_BITS};
+}
+
+static inline struct places places_in_list(size_t i)
+{
+    return (struct places){i, i, i};
+}
+
 /* Which of 7, 8 and 9 an edge earns, or 0. `next` is 256 times its source plus its label plus 1 for the edge before, 0 for none. */
-static uint64_t edge_fault(const struct header *h, size_t i, unsigned source, unsigned label, unsigned target, unsigned next)
+static uint64_t edge_fault(const struct header *h, struct places at, unsigned source, unsigned label, unsigned target, unsigned next)
 {
     unsigned here = (source << 8 | label) + 1;
-    if (source >= h->n || label >= h->m || target >= h->n)
-        return refused(OUTSIDE, i);
+    if (source >= h->n)
+        return refused(OUTSIDE, at.source);
+    if (label >= h->m)
+        return refused(OUTSIDE, at.label);
+    if (target >= h->n)
+        return refused(OUTSIDE, at.target);
     if (here < next)
-        return refused(ORDER, i);
-    return here == next ? refused(REPEATED, i) : 0;
+        return refused(ORDER, at.source);
+    return here == next ? refused(REPEATED, at.source) : 0;
 }
 
 /*
@@ -223,8 +242,9 @@ static uint64_t first_fault(const uint8_t *file, size_t length, const struct hea
     unsigned next = 0;
     uint64_t fault = 0;
     for (size_t i = 0; i < h->e && fault == 0; i++) {
-        unsigned edge = read_one(file, length, edges_begin(h->n) + EDGE_BITS * i);
-        fault = edge_fault(h, i, source_of(edge), label_of(edge), target_of(edge), next);
+        size_t bit = edges_begin(h->n) + EDGE_BITS * i;
+        unsigned edge = read_one(file, length, bit);
+        fault = edge_fault(h, places_in_file(bit), source_of(edge), label_of(edge), target_of(edge), next);
         next = (source_of(edge) << 8 | label_of(edge)) + 1;
     }
     return fault;
@@ -411,7 +431,7 @@ static uint64_t first_fault_listed(const uint8_t *edges, const struct header *h)
     unsigned next = 0;
     uint64_t fault = 0;
     for (size_t i = 0; i < h->e && fault == 0; i++, edges += 3) {
-        fault = edge_fault(h, i, edges[0], edges[1], edges[2], next);
+        fault = edge_fault(h, places_in_list(i), edges[0], edges[1], edges[2], next);
         next = ((unsigned)edges[0] << 8 | edges[1]) + 1;
     }
     return fault;
@@ -1003,7 +1023,7 @@ static uint64_t first_fault_drawn(const uint8_t *text, const struct header *h)
     for (size_t i = 0; i < h->e && fault == 0; i++) {
         unsigned source, label, target;
         at = read_known_edge(at, &source, &label, &target);
-        fault = edge_fault(h, i, source, label, target, next);
+        fault = edge_fault(h, places_in_list(i), source, label, target, next);
         next = (source << 8 | label) + 1;
     }
     return fault;

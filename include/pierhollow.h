@@ -6,6 +6,11 @@
  * could have, is told as 2^56 - 1. A refusal changes nothing that was lent to the call: no byte, no entry,
  * no value. Where a call accepts, it writes to the front of its rooms and leaves the rest of them as found.
  *
+ * Of a file that is refused with 7, 8 or 9 the place is a bit's position: the first bit of the faulty field, counted
+ * from 0, from the first byte on and within a byte from the highest bit. Byte place / 8 has it, place % 8 bits from
+ * the left; a source or target has 8 bits, a label 6. pack and from_dot, which have no bits, give the edge's index,
+ * counted from 0.
+ *
  * A room is a pointer and the number of its elements. NULL with 0 elements is an empty room, and nothing
  * else may be NULL. What is lent to be written must not overlap anything else that is lent to the same
  * call. The calls keep no state, allocate nothing and may be made from several threads at once. The archive
@@ -32,9 +37,9 @@ enum pierhollow_refusal {
     PIERHOLLOW_MISSING = 4,      /* fewer bytes than the file's length */
     PIERHOLLOW_EXCESS = 5,       /* more bytes than the file's length */
     PIERHOLLOW_FILLING = 6,      /* a filling bit is not 0 */
-    PIERHOLLOW_OUTSIDE = 7,      /* an edge's source or target is n or more, or its label m or more; place: the edge's index */
-    PIERHOLLOW_ORDER = 8,        /* an edge comes before the edge before it; place: the edge's index */
-    PIERHOLLOW_REPEATED = 9,     /* an edge has source and label of the edge before it; place: the edge's index */
+    PIERHOLLOW_OUTSIDE = 7,      /* an edge's source or target is n or more, or its label m or more; place: the first such field */
+    PIERHOLLOW_ORDER = 8,        /* an edge comes before the edge before it; place: the edge's source */
+    PIERHOLLOW_REPEATED = 9,     /* an edge has source and label of the edge before it; place: the edge's source */
     PIERHOLLOW_ANSWER_ROOM = 10, /* reduce: answer room shorter than the file; pack, from_dot, to_dot: shorter than what is written */
     PIERHOLLOW_CLASS_ROOM = 11,  /* reduce: fewer class entries than n */
     PIERHOLLOW_ROOM = 12,        /* unpack: a room is too short; trace: more than 65,535 observations or a short room */
@@ -52,7 +57,7 @@ static inline unsigned pierhollow_number(uint64_t returned)
     return (unsigned)(returned % 256);
 }
 
-/* The refusal's place in what a call returned. */
+/* The refusal's place in what a call returned. A bit position of the largest file is below 362,024. */
 static inline uint64_t pierhollow_place(uint64_t returned)
 {
     return returned / 256;

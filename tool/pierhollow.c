@@ -10,7 +10,7 @@
 
 enum status { ACCEPTED = 0, REFUSED = 1, FAILED = 2 };
 
-static const char version[] = "pierhollow 3\n";
+static const char version[] = "pierhollow 4\n";
 
 static const char help[] =
     "Usage: pierhollow COMMAND [-o FILE] [FILE]\n"
@@ -126,7 +126,7 @@ static enum status run(const struct request *request, struct work *work)
         return FAILED;
     uint64_t returned = request->command->run(work);
     if (returned != 0) {
-        tell_refusal(returned, request->command->reads_a_drawing ? &work->input : NULL);
+        tell_refusal(returned, &work->input, request->command->reads_a_drawing);
         return REFUSED;
     }
     return write_to(request->output, work->output.at, work->output.length) ? ACCEPTED : FAILED;

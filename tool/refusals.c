@@ -31,6 +31,27 @@ static size_t line_of_edge(const struct bytes *drawing, uint64_t edge)
     return position_of(drawing, first).line + (size_t)edge;
 }
 
+/* A field of an edge of a filter file: the edge's index, what the field is, and what it is to name. */
+struct field {
+    uint64_t edge;
+    const char *is;
+    const char *of;
+};
+
+/* The field whose first bit this is. The file's first field holds the number of states less one; before the edges stand 37 bits and
+ * 6 of each state's colour, and an edge has 22: 8 of its source, 6 of its label, 8 of its target. */
+static struct field field_at(const struct bytes *file, uint64_t bit)
+{
+    uint64_t states = (uint64_t)file->at[0] + 1;
+    uint64_t of_edges = bit - 37 - 6 * states;
+    struct field field = {of_edges / 22, "source", "state"};
+    if (of_edges % 22 == 8)
+        field = (struct field){of_edges / 22, "label", "label"};
+    else if (of_edges % 22 == 14)
+        field.is = "target";
+    return field;
+}
+
 static const char *meaning(unsigned number)
 {
     switch (number) {
@@ -75,21 +96,38 @@ static void tell_outside_the_profile(const struct bytes *drawing, uint64_t place
 
 static void tell_edge(unsigned number, uint64_t edge, const struct bytes *drawing)
 {
-    fprintf(stderr, "edge %" PRIu64 ", counted from 0", edge);
-    if (drawing != NULL)
-        fprintf(stderr, ", on line %zu", line_of_edge(drawing, edge));
-    fprintf(stderr, ": %s\n", meaning(number));
+    fprintf(stderr, "edge %" PRIu64 ", counted from 0, on line %zu: %s\n", edge, line_of_edge(drawing, edge), meaning(number));
 }
 
-void tell_refusal(uint64_t returned, const struct bytes *drawing)
+static void tell_field(unsigned number, uint64_t bit, const struct bytes *file)
+{
+    struct field field = field_at(file, bit);
+    fprintf(stderr,
+            "bit %" PRIu64 " is byte %" PRIu64 ", bit %" PRIu64 ", the %s of edge %" PRIu64
+            " (all from 0, bits from the left): ",
+            bit, bit / 8, bit % 8, field.is, field.edge);
+    if (number == PIERHOLLOW_OUTSIDE)
+        fprintf(stderr, "it is no %s of the filter\n", field.of);
+    else
+        fprintf(stderr, "%s\n", meaning(number));
+}
+
+static bool is_of_an_edge(unsigned number)
+{
+    return number >= PIERHOLLOW_OUTSIDE && number <= PIERHOLLOW_REPEATED;
+}
+
+void tell_refusal(uint64_t returned, const struct bytes *input, bool is_drawing)
 {
     unsigned number = pierhollow_number(returned);
     uint64_t place = pierhollow_place(returned);
     fprintf(stderr, "refused %u %" PRIu64 ": ", number, place);
-    if (number == PIERHOLLOW_DRAWING && drawing != NULL)
-        tell_outside_the_profile(drawing, place);
-    else if (number >= PIERHOLLOW_OUTSIDE && number <= PIERHOLLOW_REPEATED)
-        tell_edge(number, place, drawing);
+    if (number == PIERHOLLOW_DRAWING && is_drawing)
+        tell_outside_the_profile(input, place);
+    else if (is_of_an_edge(number) && is_drawing)
+        tell_edge(number, place, input);
+    else if (is_of_an_edge(number))
+        tell_field(number, place, input);
     else if (number == PIERHOLLOW_OBSERVATION)
         fprintf(stderr, "observation %" PRIu64 ", counted from 0: %s\n", place, meaning(number));
     else

@@ -4,7 +4,7 @@
 
 #include "streams.h"
 
-/* Says on standard error, in one line, what the library returned. `drawing` is NULL where a filter file was read. */
-void tell_refusal(uint64_t returned, const struct bytes *drawing);
+/* Says on standard error, in one line, what the library returned for what was read, a drawing or a filter file. */
+void tell_refusal(uint64_t returned, const struct bytes *input, bool is_drawing);
 
 #endif

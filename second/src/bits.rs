@@ -25,6 +25,11 @@ impl Bits {
         value
     }
 
+    /// How many bits were eaten, which is where the next one stands.
+    pub fn eaten(&self) -> u64 {
+        self.eaten as u64
+    }
+
     /// The bits that nobody has eaten.
     pub fn rest(&self) -> &[bool] {
         &self.row[self.eaten..]

@@ -1,7 +1,7 @@
 //! The library's calls: a number, a place, the counts, and the rooms that were lent.
 
 use crate::dot::{self, can_be_drawn, labels_up_to};
-use crate::file::{judge_edges, read, write, Edge, Filter, Refusal};
+use crate::file::{judge_list, read, write, Edge, Filter, Refusal};
 use crate::{reduce, trace};
 
 /// `number` is 0 where the call accepts. Every count of a refused call is 0.
@@ -193,6 +193,6 @@ fn judged(filter: Filter) -> Result<Filter, Refusal> {
     if filter.e() > n * m {
         return Err(Refusal::new(3));
     }
-    judge_edges(&filter.edges, n, m)?;
+    judge_list(&filter.edges, n, m)?;
     Ok(filter)
 }

@@ -2,7 +2,8 @@
 
 use crate::bits::{bytes_of, push, Bits};
 
-/// Why a call says no. Only 7, 8 and 9, trace's 13 and the 15 of a text have a place other than 0.
+/// Why a call says no. Only 7, 8 and 9, trace's 13 and the 15 of a text have a place other than 0. That of 7, 8 and 9 is
+/// a bit of the file, or the edge's index where there is no file yet.
 #[derive(Clone, Copy, Debug, PartialEq, Eq)]
 pub struct Refusal {
     pub number: u8,
@@ -97,20 +98,26 @@ pub fn read(bytes: &[u8]) -> Result<Filter, Refusal> {
         colours.push(bits.eat(6));
     }
     let mut edges = Vec::new();
+    let mut places = Vec::new();
     for _ in 0..e {
-        let source = bits.eat(8);
-        let label = bits.eat(6);
-        let target = bits.eat(8);
+        let mut stood = [0; 3];
+        let mut read = [0; 3];
+        for (field, width) in [8, 6, 8].into_iter().enumerate() {
+            stood[field] = bits.eaten();
+            read[field] = bits.eat(width);
+        }
+        let [source, label, target] = read;
         edges.push(Edge {
             source,
             label,
             target,
         });
+        places.push(stood);
     }
     if bits.rest().contains(&true) {
         return Err(Refusal::new(6));
     }
-    judge_edges(&edges, n, m)?;
+    judge_edges(&edges, &places, n, m)?;
     Ok(Filter {
         colours,
         m,
@@ -119,28 +126,35 @@ pub fn read(bytes: &[u8]) -> Result<Filter, Refusal> {
     })
 }
 
-/// The first faulty edge decides, and within it 7, 8, 9.
-pub fn judge_edges(edges: &[Edge], n: u64, m: u64) -> Result<(), Refusal> {
-    for (i, edge) in edges.iter().enumerate() {
-        let fault = |number| {
+/// Of edges that stand in a list: a fault's place is the edge's index.
+pub fn judge_list(edges: &[Edge], n: u64, m: u64) -> Result<(), Refusal> {
+    let places: Vec<[u64; 3]> = (0..edges.len() as u64).map(|index| [index; 3]).collect();
+    judge_edges(edges, &places, n, m)
+}
+
+/// The first faulty edge decides, and within it 7, 8, 9. Each edge comes with the places of its source, label and target:
+/// 7 has that of the first which is too high, 8 and 9 the source's.
+fn judge_edges(edges: &[Edge], places: &[[u64; 3]], n: u64, m: u64) -> Result<(), Refusal> {
+    let mut before = None;
+    for (edge, place) in edges.iter().zip(places) {
+        let fault = |number, field: usize| {
             Err(Refusal {
                 number,
-                place: i as u64,
+                place: place[field],
             })
         };
-        if edge.source >= n || edge.target >= n || edge.label >= m {
-            return fault(7);
+        let limits = [(edge.source, n), (edge.label, m), (edge.target, n)];
+        if let Some(field) = limits.iter().position(|(value, limit)| value >= limit) {
+            return fault(7, field);
         }
-        if i > 0 {
-            let before = (edges[i - 1].source, edges[i - 1].label);
-            let own = (edge.source, edge.label);
-            if own < before {
-                return fault(8);
-            }
-            if own == before {
-                return fault(9);
-            }
+        let own = Some((edge.source, edge.label));
+        if own < before {
+            return fault(8, 0);
         }
+        if own == before {
+            return fault(9, 0);
+        }
+        before = own;
     }
     Ok(())
 }

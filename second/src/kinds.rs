@@ -13,6 +13,8 @@ pub enum Kind {
     Number(Call, u8),
     /// A refusal that names an edge or an observation.
     At(Call, u8, Where),
+    /// A file's 7 by this field of an edge.
+    AtField(Call, Field, Where),
     Traced,
     /// Traced without any observation.
     StartAlone,
@@ -79,6 +81,18 @@ impl Where {
     }
 }
 
+/// A field of an edge, by how many of the edge's bits stand before it.
+#[derive(Clone, Copy, Debug, PartialEq, Eq, PartialOrd, Ord)]
+pub enum Field {
+    Source = 0,
+    Label = 8,
+    Target = 14,
+}
+
+impl Field {
+    pub const ALL: [Field; 3] = [Field::Source, Field::Label, Field::Target];
+}
+
 /// All kinds that a call has.
 pub fn all_of(call: Call) -> Vec<Kind> {
     let mut all = Vec::new();
@@ -90,6 +104,11 @@ pub fn all_of(call: Call) -> Vec<Kind> {
     for number in 7..=9 {
         all.push(Kind::At(call, number, Where::Middle));
         all.push(Kind::At(call, number, Where::Last));
+    }
+    if reads_a_file(call) {
+        for field in Field::ALL {
+            all.extend(Where::ALL.map(|place| Kind::AtField(call, field, place)));
+        }
     }
     if call == Call::Trace {
         all.extend(Where::ALL.map(|place| Kind::At(call, 13, place)));
@@ -143,8 +162,12 @@ pub fn of(case: &Case, outcome: &Outcome) -> Vec<Kind> {
     let answer = outcome.answer;
     let mut kinds = vec![Kind::Number(call, answer.number)];
     if (7..=9).contains(&answer.number) {
-        let place = Where::of(answer.place, edges_of(case));
+        let (edge, field) = faulty_field(case, answer.place);
+        let place = Where::of(edge, edges_of(case));
         kinds.push(Kind::At(call, answer.number, place));
+        if answer.number == 7 {
+            kinds.extend(field.map(|field| Kind::AtField(call, field, place)));
+        }
     }
     match call {
         Call::Trace => kinds.extend(of_trace(case, outcome)),
@@ -154,6 +177,24 @@ pub fn of(case: &Case, outcome: &Outcome) -> Vec<Kind> {
         Call::Check | Call::Unpack | Call::Pack => {}
     }
     kinds
+}
+
+fn reads_a_file(call: Call) -> bool {
+    ![Call::Pack, Call::FromDot].contains(&call)
+}
+
+/// The edge at fault; and which of its fields, where the place is a bit of a file.
+fn faulty_field(case: &Case, place: u64) -> (u64, Option<Field>) {
+    if !reads_a_file(case.call) {
+        return (place, None);
+    }
+    let n = Header::of(&case.a).expect("a header").n;
+    let bit = place - 37 - 6 * n;
+    let field = Field::ALL
+        .into_iter()
+        .find(|&field| field as u64 == bit % 22)
+        .expect("the first bit of a field");
+    (bit / 22, Some(field))
 }
 
 fn of_trace(case: &Case, outcome: &Outcome) -> Option<Kind> {

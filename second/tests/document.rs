@@ -234,8 +234,54 @@ fn a_refused_file_ends_the_trace() {
         start: 0,
         edges: vec![edge(0, 0, 1), edge(0, 0, 2)],
     });
-    traced_in(&second_edge_repeats, &[0], 2, refused(9, 1), &[]);
-    assert_eq!(program::trace(&second_edge_repeats, &[0]), "refused 9 1\n");
+    // 37 + 3 * 6 + 22
+    traced_in(&second_edge_repeats, &[0], 2, refused(9, 77), &[]);
+    assert_eq!(program::trace(&second_edge_repeats, &[0]), "refused 9 77\n");
+}
+
+/// K with another edge 2: its source is at bit 37 + 3 * 6 + 2 * 22 = 99, its label 8 and its target 14 bits behind that.
+#[test]
+fn the_place_in_a_file_is_the_faulty_field_s_first_bit() {
+    for (edge, number, place) in [
+        (edge(3, 0, 0), 7, 99),
+        (edge(1, 2, 0), 7, 107),
+        (edge(1, 0, 3), 7, 113),
+        (edge(3, 2, 0), 7, 99),
+        (edge(3, 0, 3), 7, 99),
+        (edge(1, 2, 3), 7, 107),
+        (edge(255, 63, 255), 7, 99),
+        (edge(0, 0, 0), 8, 99),
+        (edge(0, 1, 0), 9, 99),
+        (edge(0, 0, 3), 7, 113),
+        (edge(0, 2, 0), 7, 107),
+    ] {
+        let mut filter = read(K).expect("K");
+        filter.edges[2] = edge;
+        let file = write(&filter);
+        assert_eq!(check(&file), refused(number, place), "{edge:?}");
+        let text = format!("refused {number} {place}\n");
+        assert_eq!(program::reduce(&file), text);
+        assert_eq!(program::trace(&file, &[0]), text);
+        assert_eq!(program::shrink(&file), A);
+    }
+}
+
+/// The last edge of the largest file repeats the one before it: 37 + 256 * 6 + 16,383 * 22, in byte 45,249 of 45,253.
+#[test]
+fn the_last_place_of_all() {
+    let mut edges = Vec::new();
+    for source in 0..256 {
+        edges.extend((0..64).map(|label| edge(source, label, 0)));
+    }
+    edges[16_383] = edge(255, 62, 0);
+    let file = write(&Filter {
+        colours: vec![0; 256],
+        m: 64,
+        start: 0,
+        edges,
+    });
+    assert_eq!(check(&file), refused(9, 361_999));
+    assert_eq!(check(&file).place / 8, file.len() as u64 - 4);
 }
 
 #[test]

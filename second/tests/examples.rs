@@ -8,7 +8,7 @@ mod outputs;
 
 use common::{at_once, program, run, whole};
 use outputs::{wrote, Folder};
-use second::call::from_dot;
+use second::call::{check, from_dot};
 use second::case::{Case, Outcome};
 use second::compare::Batch;
 use second::dot::can_be_drawn;
@@ -175,6 +175,27 @@ fn the_drawings_are_written_and_read_by_both_programs() {
             holds(&of_both[1], &filters[name]),
             "{name}.dot is not read as it is"
         );
+    }
+}
+
+/// docs/FORMAT.md looks for a fault of K in a hex viewer: one bit of K is changed, and check names the place.
+#[test]
+fn the_document_on_the_file_finds_the_fault() {
+    let document = fs::read_to_string(examples().join("../docs/FORMAT.md")).expect("the document");
+    let mut faulty = K.to_vec();
+    faulty[13] ^= 1;
+    let bytes: Vec<String> = faulty.iter().map(|byte| format!("{byte:02x}")).collect();
+    let shown = format!("\n    {}\n", bytes.join(" "));
+    assert!(document.contains(&shown), "{shown} is not shown");
+    let answer = check(&faulty);
+    assert_eq!((answer.number, answer.place), (7, 107));
+    for told in [
+        "refused with 7 at 107",
+        "107 = 13 · 8 + 3",
+        "`21 00`",
+        "    refused 7 107: bit 107 is byte 13, bit 3, the label of edge 2 (all from 0, bits from the left): it is no label of the filter\n",
+    ] {
+        assert!(document.contains(told), "{told} is not told");
     }
 }
 

@@ -1,12 +1,14 @@
 //! The generator makes what its families say, and the second program answers in the documents' order.
 
 use second::bits::free_bits;
-use second::call::check;
+use second::call::{check, pack};
 use second::case::{Call, Case};
 use second::file::{length, read, write, Filter, Header};
 use second::kinds;
 use second::make::chains::{chains, lengths, rounds};
-use second::make::damage::{one_faulty_edge, two_faulty_edges, Damage};
+use second::make::damage::{
+    one_faulty_edge, several_faults_in_an_edge, two_faulty_edges, Damage, TOGETHER,
+};
 use second::make::draft::Draft;
 use second::make::filters::shapes;
 use second::make::rooms::Room;
@@ -95,21 +97,46 @@ fn a_faulty_edge_is_named() {
         let filters = one_faulty_edge(63, random);
         for (i, filter) in filters.iter().enumerate() {
             let damage = Damage::ALL[i / 3];
-            let place = damage.places(filter)[i % 3] as u64;
-            let answer = check(&write(filter));
-            assert_eq!((answer.number, answer.place), (damage.number(), place));
+            let edge = damage.places(filter)[i % 3];
+            assert_eq!(
+                of_the_file(filter),
+                (damage.number(), damage.bit(filter, edge))
+            );
+            assert_eq!(of_the_lists(filter), (damage.number(), edge as u64));
         }
     });
 }
 
+/// The number and the place for a file of these contents.
+fn of_the_file(filter: &Filter) -> (u8, u64) {
+    let answer = check(&write(filter));
+    (answer.number, answer.place)
+}
+
+/// The same for its lists.
+fn of_the_lists(filter: &Filter) -> (u8, u64) {
+    let bytes = |values: Vec<u64>| -> Vec<u8> { values.iter().map(|&value| value as u8).collect() };
+    let edges = filter.edges.iter();
+    let edges = edges.flat_map(|edge| [edge.source, edge.label, edge.target]);
+    let edges = bytes(edges.collect());
+    let answer = pack(
+        &bytes(filter.colours.clone()),
+        &edges,
+        filter.m,
+        filter.start,
+        &mut [],
+    );
+    (answer.number, answer.place)
+}
+
 #[test]
-fn two_faults_in_an_edge_are_7() {
+fn of_several_faults_in_an_edge_the_first_field_is_named() {
     for_each_seed(|random| {
-        for file in files::two_faults_in_an_edge(random) {
-            assert_eq!(check(&file).number, 7);
-        }
-        for case in lists::two_faults_in_an_edge(random) {
-            assert_eq!(number(&case), 7);
+        for (i, damaged) in several_faults_in_an_edge(63, random).iter().enumerate() {
+            let first = TOGETHER[i / 3][0];
+            let filter = &damaged.filter;
+            assert_eq!(of_the_file(filter), (7, first.bit(filter, damaged.edge)));
+            assert_eq!(of_the_lists(filter), (7, damaged.edge as u64));
         }
     });
 }
@@ -117,11 +144,17 @@ fn two_faults_in_an_edge_are_7() {
 #[test]
 fn the_earlier_of_two_faulty_edges_decides() {
     for_each_seed(|random| {
-        for (i, filter) in two_faulty_edges(63, random).iter().enumerate() {
+        for (i, damaged) in two_faulty_edges(63, random).iter().enumerate() {
             let earlier = Damage::ALL[i / Damage::ALL.len()];
-            let answer = check(&write(filter));
-            assert_eq!(answer.number, earlier.number());
-            assert!(answer.place + 2 < filter.e());
+            let filter = &damaged.filter;
+            assert_eq!(
+                of_the_file(filter),
+                (earlier.number(), earlier.bit(filter, damaged.edge))
+            );
+            assert_eq!(
+                of_the_lists(filter),
+                (earlier.number(), damaged.edge as u64)
+            );
         }
     });
 }

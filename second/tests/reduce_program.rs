@@ -127,7 +127,8 @@ fn files_of_all_families(
 fn files_agree() {
     let seed = seed();
     let mut random = Random::new(seed);
-    let files = files_of_all_families(&mut random, 30, 8);
+    // Twice the whole family of one faulty edge.
+    let files = files_of_all_families(&mut random, 36, 8);
     println!("{} files", files.len());
     assert!(files.len() >= LEAST_FILES, "only {} files", files.len());
     let mut seen = BTreeSet::new();

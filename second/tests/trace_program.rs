@@ -86,7 +86,8 @@ fn the_document_s_pairs() {
 /// Files and observations of every family, each kind of answer among them.
 #[test]
 fn pairs_agree() {
-    const OF_EACH_FILE_FAMILY: usize = 14;
+    /// All of the family of one faulty edge, so that each field is at fault in the first, a middle and the last one.
+    const OF_EACH_FILE_FAMILY: usize = 18;
     const OF_EACH_TRACE_FAMILY: usize = 34;
     let seed = seed();
     let mut random = Random::new(seed);

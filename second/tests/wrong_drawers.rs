@@ -3,7 +3,7 @@
 
 use second::case::Case;
 use second::dot::{self, labels_up_to, Drawing};
-use second::file::{judge_edges, read, write, Edge, Filter, Header};
+use second::file::{judge_list, read, write, Edge, Filter, Header};
 use second::make::{contents, drawings, texts, Family};
 use second::random::{seed, Random};
 use std::fmt;
@@ -347,7 +347,7 @@ impl Judged {
     }
 
     fn faulty(self, edges: &[Edge], n: u64, m: u64) -> Option<Told> {
-        let judged = |n| judge_edges(edges, n, m);
+        let judged = |n| judge_list(edges, n, m);
         let judgement = match self {
             // The order in a first walk, the ends in a second.
             Judged::EndsBehindOrder => judged(1000).and_then(|()| judged(n)),

@@ -1,6 +1,7 @@
 /*
  * Every call of the library from C: the values at their documented places, refusals with number and place, and rooms that a
- * refusal leaves as found. The cases are document 01's rides K, P, Q and R, and ride K drawn.
+ * refusal leaves as found. The cases are document 01's rides K, P, Q and R, K with faulty edges,
+ * and ride K drawn.
  */
 #include <stdio.h>
 #include <string.h>
@@ -56,6 +57,55 @@ static void check(void)
     expect(values_are(values, 4, (const uint64_t[4]){9, 9, 9, 9}), "check: a refusal leaves the values");
     expect(pierhollow_check(k_file, 18, values) == 0, "check of K");
     expect(values_are(values, 4, (const uint64_t[4]){3, 2, 0, 4}), "check: n, m, start, e");
+}
+
+/* K with edges that are faulty: the place is the faulty field's first bit, whichever call reads the file. */
+static void name_the_bit(const uint8_t file[18], unsigned number, uint64_t bit, const char *what)
+{
+    uint64_t values[4] = {9, 9, 9, 9};
+    uint8_t room[200];
+    uint8_t edges[14];
+    uint16_t classes[4] = {7, 7, 7, 7};
+    memset(room, 0xAA, sizeof room);
+    memset(edges, 0xAA, sizeof edges);
+    const uint64_t returned[5] = {
+        pierhollow_check(file, 18, values),
+        pierhollow_unpack(file, 18, room, 200, edges, 14, values),
+        pierhollow_trace(file, 18, k_colours, 3, room, 200, values),
+        pierhollow_reduce(file, 18, room, 200, classes, 4, values),
+        pierhollow_to_dot(file, 18, room, 200, values),
+    };
+    static const char *const calls[5] = {"check", "unpack", "trace", "reduce", "to_dot"};
+    for (size_t i = 0; i < 5; i++) {
+        char told[100];
+        snprintf(told, sizeof told, "%s of K, edge 2 %s", calls[i], what);
+        expect_refusal(returned[i], number, bit, told);
+    }
+    expect(all(room, 200, 0xAA) && all(edges, 14, 0xAA) && values_are(values, 4, (const uint64_t[4]){9, 9, 9, 9}) &&
+               memcmp(classes, (const uint16_t[4]){7, 7, 7, 7}, sizeof classes) == 0,
+           "a faulty edge leaves rooms and values");
+}
+
+static void name_bits(void)
+{
+    /* Edge 2 begins at bit 37 + 3 * 6 + 2 * 22 = 99, in byte 12; its label 8 and its target 14 bits behind that. */
+    uint8_t file[18];
+    memcpy(file, k_file, 18);
+    file[13] = 0x21;
+    name_the_bit(file, PIERHOLLOW_OUTSIDE, 107, "with the label 2");
+    file[15] = 0x81;
+    name_the_bit(file, PIERHOLLOW_OUTSIDE, 107, "with the label 2 and the target 1");
+    file[14] = 0x01;
+    name_the_bit(file, PIERHOLLOW_OUTSIDE, 107, "with the label 2 and the target 3");
+    file[13] = 0x20;
+    name_the_bit(file, PIERHOLLOW_OUTSIDE, 113, "with the target 3");
+    file[13] = 0x60;
+    name_the_bit(file, PIERHOLLOW_OUTSIDE, 99, "with the source 3 and the target 3");
+    memcpy(file, k_file, 18);
+    file[13] = 0x00;
+    name_the_bit(file, PIERHOLLOW_ORDER, 99, "from 0 with the label 0");
+    file[14] = 0x80;
+    name_the_bit(file, PIERHOLLOW_REPEATED, 99, "from 0 with the label 1");
 }
 
 static void unpack(void)
@@ -241,6 +291,7 @@ static void longest(void)
 int main(void)
 {
     check();
+    name_bits();
     unpack();
     pack();
     trace();

@@ -34,6 +34,8 @@ FAULTY = {
     "label-outside": three_states((0, 2, 1)),
     "source-outside": three_states((0, 0, 1), (3, 0, 0)),
     "target-outside": three_states((0, 0, 1), (0, 1, 2), (1, 0, 3)),
+    "label-and-target": three_states((0, 0, 1), (0, 1, 2), (1, 2, 3)),
+    "all-outside": three_states((0, 0, 1), (0, 1, 2), (3, 2, 3)),
     "label-before": three_states((0, 1, 2), (0, 0, 1)),
     "source-before": three_states((0, 0, 1), (2, 1, 0), (1, 1, 0)),
     "repeated": three_states((0, 0, 1), (0, 0, 2)),

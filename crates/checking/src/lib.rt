@@ -6,7 +6,6 @@ use layout::Reading;
 use refusals::Kind;
 use refusals::Refusal;
 ghost use mathlib.Core.Path.{_≡_};
-ghost use Prim.Native.Nat.{_≤_};
 ghost use Rattle.refusals.specs.Refusals.{onward, refusalOutcome};
 ghost use Rattle.layout.specs.Layout.{large};
 ghost use Rattle.layout.specs.Code.{Usable};
@@ -38,11 +37,10 @@ fn check_as(p: Profile, answer: Checked, file: &[u8]) -> Checked
     let e = r.edges;
     let mut cursor = Cursor::begin(layout::edges_begin(p, n));
     while cursor.index < e {
-        let next = cursor.next(p, file);
-        let edge = next.before;
-        let verdict = edges::test(n, m, cursor.index, cursor.rank, edge);
+        let edge = layout::edge::read(p, file, cursor.place);
+        let verdict = edges::test(n, m, cursor.rank, edge);
         match verdict {
-            Verdict::Faultless => cursor = next,
+            Verdict::Faultless => cursor = cursor.behind(p, edge),
             Verdict::Faulty(why) => return Checked::Refused(why),
         }
     }

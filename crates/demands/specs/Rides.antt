@@ -8,14 +8,14 @@ use lib.ListN.{length}
 use Rattle.bits.specs.Bits.{bitAt, field, splice, putBit, putField}
 use Rattle.pen.specs.Runs.{fields, putFields}
 use Rattle.meaning.specs.Cases.{impossible}
-use Rattle.meaning.specs.Filter.{inside, comesBefore, samePlace}
+use Rattle.meaning.specs.Filter.{comesBefore, samePlace}
 use Rattle.meaning.specs.Search.{any, least, count, tab}
 use Rattle.meaning.specs.Reach.{among, meet, visited, walked, reached}
 use Rattle.meaning.specs.Classes.{initial, parted, first, free, groups, split, round, chosen, begin, cut, run, reduction, classes, number}
 use Rattle.meaning.specs.Reduced.{apart, conflict, live, reduce, nameOf, mapped, class-edge, edge′, cell, row, listed, merged, reduced, classList, distinct}
 use Rattle.meaning.specs.Trace.{target, edge, colour, ridden, halted, shown, stops}
 use Rattle.layout.specs.Layout.{large, headerBits, edgeBits, edgesBegin, fileBits, bytesFor, fileLength, fillBits, edgeWidths, fileWidths, flat, fileValues, lengthOf, written}
-use Rattle.layout.specs.Contents.{statesIn, labelsIn, startIn, countIn, coloursIn, edgeAt, edgesFrom, edgesIn, filterIn, lengthIn, fillingIn}
+use Rattle.layout.specs.Contents.{statesIn, labelsIn, startIn, countIn, coloursIn, placedAt, placedFrom, placedIn, edgeAt, edgesFrom, edgesIn, filterIn, lengthIn, fillingIn}
 use Rattle.refusals.specs.Refusals.{Outcome, accepted, refused, roomAfter}
 use Rattle.edges.specs.Faults.{edgeFault, firstFault}
 use Rattle.files.specs.Files.{fileTests, checkOf}
@@ -203,17 +203,17 @@ done r =
     }
 
 pub rides-hold : map done rides ≡ rides
-unfolding done reduceOf countsOf classList among meet visited walked reached any least count tab initial parted first free groups split round chosen begin cut run reduction classes number apart conflict live reduce nameOf mapped class-edge edge′ cell row listed merged reduced distinct bitAt field splice putBit putField fields putFields inside comesBefore samePlace headerBits edgeBits edgesBegin fileBits bytesFor fileLength fillBits edgeWidths fileWidths flat fileValues lengthOf written statesIn labelsIn startIn countIn coloursIn edgeAt edgesFrom edgesIn filterIn lengthIn fillingIn edgeFault firstFault fileTests checkOf target edge colour ridden halted shown stops firstOutside traceOf
+unfolding done reduceOf countsOf classList among meet visited walked reached any least count tab initial parted first free groups split round chosen begin cut run reduction classes number apart conflict live reduce nameOf mapped class-edge edge′ cell row listed merged reduced distinct bitAt field splice putBit putField fields putFields comesBefore samePlace headerBits edgeBits edgesBegin fileBits bytesFor fileLength fillBits edgeWidths fileWidths flat fileValues lengthOf written statesIn labelsIn startIn countIn coloursIn placedAt placedFrom placedIn edgeAt edgesFrom edgesIn filterIn lengthIn fillingIn edgeFault firstFault fileTests checkOf target edge colour ridden halted shown stops firstOutside traceOf
 rides-hold = refl
 
 -- ---- the two filters need not trace the same sequences
 
 file-K′ : reducedFile large (K .file) ≡ bytesK′
-unfolding among meet visited walked reached any least count tab initial parted first free groups split round chosen begin cut run reduction classes number apart conflict live reduce nameOf mapped class-edge edge′ cell row listed merged reduced target edge colour bitAt field splice putBit putField fields putFields headerBits edgeBits edgesBegin fileBits bytesFor fileLength fillBits edgeWidths fileWidths flat fileValues lengthOf written statesIn labelsIn startIn countIn coloursIn edgeAt edgesFrom edgesIn filterIn
+unfolding among meet visited walked reached any least count tab initial parted first free groups split round chosen begin cut run reduction classes number apart conflict live reduce nameOf mapped class-edge edge′ cell row listed merged reduced target edge colour bitAt field splice putBit putField fields putFields headerBits edgeBits edgesBegin fileBits bytesFor fileLength fillBits edgeWidths fileWidths flat fileValues lengthOf written statesIn labelsIn startIn countIn coloursIn placedAt placedFrom placedIn edgeAt edgesFrom edgesIn filterIn
 file-K′ = refl
 
 stops-K : (stops (filterIn large bytesK′) (0 ∷ 1 ∷ []) ≡ none) × (stops (filterIn large (K .file)) (0 ∷ 1 ∷ []) ≡ some 1)
-unfolding target edge halted stops bitAt field fields headerBits edgeBits edgesBegin statesIn labelsIn startIn countIn coloursIn edgeAt edgesFrom edgesIn filterIn
+unfolding target edge halted stops bitAt field fields headerBits edgeBits edgesBegin statesIn labelsIn startIn countIn coloursIn placedAt placedFrom placedIn edgeAt edgesFrom edgesIn filterIn
 stops-K = (refl, refl)
 
 -- K reduced traces 0, 1, and K does not.

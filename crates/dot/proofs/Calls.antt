@@ -16,7 +16,7 @@ use Rattle.layout.specs.declared.Profile.{Profile}
 use Rattle.layout.specs.declared.Reading.{Reading}
 use Rattle.layout.specs.Layout.{fileLength, lengthOf, written}
 use Rattle.layout.specs.Contents.{startIn, labelsIn, edgesIn, filterIn}
-use Rattle.edges.specs.Faults.{firstFault, edgesThen, placeInList}
+use Rattle.edges.specs.Faults.{listedFrom, firstFault, edgesThen}
 use Rattle.files.specs.Files.{holdable, writeTests, writeOf}
 use Rattle.files.specs.Tests.{ReadIs, held, Written, write-written}
 use Rattle.checking.specs.declared.Checked.{Checked}
@@ -69,7 +69,7 @@ module _ (P : Profile) (text : List ℕ) (s : Survey) (k : Known text s) where
 
   pub onto-edges : (room : ℕ) → holdable P (coloursOf (readOf text)) (s .labels) ≡ true → s .edges ≤ s .states * s .labels →
       fromDotOf P text room
-      ≡ edgesThen placeInList (firstFault (s .states) (s .labels) none 0 (edgesOf (readOf text)))
+      ≡ edgesThen (firstFault (s .states) (s .labels) none (listedFrom 0 (edgesOf (readOf text))))
       (firstOf (roomTest (fileLength P (s .states) (s .edges)) room) (accepted (fileLength P (s .states) (s .edges) ∷ [])))
   unfolding writeOf writeTests lengthOf
   onto-edges room h l =

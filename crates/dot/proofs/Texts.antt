@@ -8,13 +8,13 @@ use mathlib.Core.Option.{Option, none, some}
 use native.Mathlib.Omega.{arith}
 use lib.Dec.{ltb, leb}
 use lib.ListN.{length}
-use borrow.Author.Tests.{ltb-true, ltb-false, lt-ltb, le-leb, lt-leb, leb-true, leb-false}
+use borrow.Author.Tests.{ltb-true, ltb-false, le-leb, lt-leb, leb-true, leb-false}
 use Rattle.meaning.specs.Cases.{cases-of, impossible}
-use Rattle.meaning.specs.Filter.{Edge, inside}
+use Rattle.meaning.specs.Filter.{Edge}
 use Rattle.layout.specs.declared.Profile.{Profile}
 use Rattle.layout.specs.Code.{Usable}
 use Rattle.edges.specs.declared.Verdict.{Verdict}
-use Rattle.edges.specs.Faults.{edgeFault, firstFault}
+use Rattle.edges.specs.Faults.{listedFrom, edgeFault, firstFault}
 use Rattle.edges.specs.Walk.{faultOf}
 use Rattle.files.specs.Files.{within, allBelow, holdable}
 use Rattle.drawing.specs.Profile.{larger, labelsOf}
@@ -94,22 +94,22 @@ smaller-is n k h = cases-of (ltb n k) (λ q. rw q) (λ q. rw q (omega (arith, lt
 
 -- where each label is below m, no fault depends on m
 fault-labels : (n m k i : ℕ) (before : Option Edge) (es : List Edge) → labelsOf es ≤ m → labelsOf es ≤ k →
-    firstFault n m before i es ≡ firstFault n k before i es
-unfolding firstFault edgeFault inside labelsOf
+    firstFault n m before (listedFrom i es) ≡ firstFault n k before (listedFrom i es)
+unfolding firstFault listedFrom edgeFault labelsOf
 fault-labels n m k i before [] hm hk = refl
 fault-labels n m k i before (e ∷ es) hm hk =
     let is = larger-is (suc (e .label)) (labelsOf es) in
     rw (
-      lt-ltb (e .label) m (omega (arith, is)),
-      lt-ltb (e .label) k (omega (arith, is)),
+      lt-leb m (e .label) (omega (arith, is)),
+      lt-leb k (e .label) (omega (arith, is)),
       fault-labels n m k (suc i) (some e) es (omega (arith, is)) (omega (arith, is)),
     )
 
 -- of a filter that a file can hold, the first fault is that of pack
 pub fault-is : (text : List ℕ) (s : Survey) → Known text s → s .states ≤ 256 → s .labels ≤ 256 →
-    faultAmong (s .states) (edgesOf (readOf text)) ≡ firstFault (s .states) (s .labels) none 0 (edgesOf (readOf text))
+    faultAmong (s .states) (edgesOf (readOf text)) ≡ firstFault (s .states) (s .labels) none (listedFrom 0 (edgesOf (readOf text)))
 fault-is text s k n m =
     let es = edgesOf (readOf text) in
     let labels = labels-are text s k in
-    ap (λ (j : ℕ). firstFault j 256 none 0 es) (smaller-is (s .states) 256 n)
+    ap (λ (j : ℕ). firstFault j 256 none (listedFrom 0 es)) (smaller-is (s .states) 256 n)
     ∙ fault-labels (s .states) 256 (s .labels) 0 none es (omega (arith, labels)) (omega (arith, labels))

@@ -1,26 +1,29 @@
--- Laws of faults: what a list without a fault is, and the first fault one edge further. Assumes nothing.
-use mathlib.Core.Path.{_≡_, refl, sym, ap, _∙_}
+-- Laws of faults: what edges without a fault are, and the first fault one edge further. Assumes nothing.
+use mathlib.Core.Path.{_≡_, refl, sym, _∙_}
 use mathlib.Core.Bool.{Bool, true, false, _&&_, _||_}
-use mathlib.Core.List.{List, [], _∷_}
+use mathlib.Core.List.{List, [], _∷_, map}
 use mathlib.Core.Option.{Option, none, some}
-use Prim.Native.Nat.{ℕ, suc, _+_, _≤_, _<_}
-use native.Mathlib.Numerals.{add-one}
+use Prim.Native.Nat.{ℕ, suc, _≤_, _<_}
 use native.Mathlib.Omega.{arith}
-use lib.Dec.{eqb, ltb}
-use borrow.Author.Tests.{lt-ltb, le-ltb, eq-eqb, ne-eqb, ltb-true, ltb-false, eqb-true, eqb-false}
+use lib.Dec.{eqb, leb, ltb}
+use borrow.Author.Tests.{lt-ltb, le-ltb, lt-leb, eq-eqb, ne-eqb, ltb-true, ltb-false, leb-false, eqb-true, eqb-false}
 use Rattle.meaning.specs.Pick.{pick}
 use Rattle.meaning.specs.Cases.{impossible, cases-of, and-left, and-right}
 use Rattle.meaning.specs.Filter.{Edge, inside, comesBefore, samePlace, each, leads, ascending}
-use Rattle.refusals.specs.Refusals.{Outcome, accepted, refused}
-use Rattle.edges.specs.Faults.{orderFault, edgeFault, Fault, faultAt, firstFault, edgesThen}
+use Rattle.refusals.specs.Refusals.{Outcome, accepted}
+use Rattle.layout.specs.declared.edge.Placed.{Placed}
+use Rattle.layout.specs.Contents.{values}
+use Rattle.edges.specs.Faults.{listedFrom, Fault, faulty, orderFault, edgeFault, orElse, firstFault, edgesThen}
 use Rattle.edges.specs.Walk.{rankOf, Ranked}
 
-none-some : {A : Type 0} (k : ℕ) → _≡_ {A = Option ℕ} (some k) none → A
-none-some k h = impossible cc
+pub edges-accepted : (f : Option Fault) (next : Outcome) (vs : List ℕ) → edgesThen f next ≡ accepted vs → (f ≡ none) × (next ≡ accepted vs)
+edges-accepted none next vs h = (refl, h)
+edges-accepted (some f) next vs h = impossible cc
 
-pub edges-accepted : (place : ℕ → ℕ) (f : Option Fault) (next : Outcome) (vs : List ℕ) → edgesThen place f next ≡ accepted vs → (f ≡ none) × (next ≡ accepted vs)
-edges-accepted place none next vs h = (refl, h)
-edges-accepted place (some f) next vs h = impossible cc
+pub listed-values : (i : ℕ) (es : List Edge) → map values (listedFrom i es) ≡ es
+unfolding listedFrom
+listed-values i [] = refl
+listed-values i (e ∷ es) = rw (listed-values (suc i) es)
 
 order : (x y : ℕ) → y ≤ x → (x ≡ y → ⊥) → y < x
 order x y h n = go (ltb y x) refl
@@ -49,32 +52,38 @@ after a b h k = go (ltb (b .source) (a .source)) refl
             let l : b .label < a .label = order (a .label) (b .label) (ltb-false (a .label) (b .label) l1) (eqb-false (a .label) (b .label) l2) in
             rw (e, s2) (lt-ltb _ _ l)
 
-pick-clear : (b : Bool) (k : ℕ) (next : Option ℕ) → pick b (some k) next ≡ none → (b ≡ false) × (next ≡ none)
-pick-clear true k next h = none-some k h
-pick-clear false k next h = (refl, h)
+pick-clear : (b : Bool) (f : Fault) (next : Option Fault) → pick b (some f) next ≡ none → (b ≡ false) × (next ≡ none)
+pick-clear true f next h = impossible cc
+pick-clear false f next h = (refl, h)
 
-order-clear : (e b : Edge) → orderFault (some b) e ≡ none → comesBefore b e ≡ true
+order-clear : (e : Placed) (b : Edge) → orderFault (some b) e ≡ none → comesBefore b (values e) ≡ true
 order-clear e b h =
-    let p = pick-clear (comesBefore e b) _ _ h in
-    let q = pick-clear (samePlace e b) _ none (p .1) in
-    after e b (p .0) (q .0)
+    let p = pick-clear (comesBefore (values e) b) _ _ h in
+    let q = pick-clear (samePlace (values e) b) _ none (p .1) in
+    after (values e) b (p .0) (q .0)
 
-inside-pick : (b : Bool) (next : Option ℕ) → pick b next (some 7) ≡ none → (b ≡ true) × (next ≡ none)
-inside-pick true next h = (refl, h)
-inside-pick false next h = none-some 7 h
+inside-clear : (n m : ℕ) (before : Option Edge) (e : Placed) → edgeFault n m before e ≡ none → (inside n m (values e) ≡ true) × (orderFault before e ≡ none)
+unfolding edgeFault inside
+inside-clear n m before e h =
+    let source = pick-clear (leb n (e .source .value)) _ _ h in
+    let label = pick-clear (leb m (e .label .value)) _ _ (source .1) in
+    let target = pick-clear (leb n (e .target .value)) _ (orderFault before e) (label .1) in (
+      rw (
+        lt-ltb (e .source .value) n (leb-false _ _ (source .0)),
+        lt-ltb (e .label .value) m (leb-false _ _ (label .0)),
+        lt-ltb (e .target .value) n (leb-false _ _ (target .0)),
+      ),
+      target .1,
+    )
 
-inside-clear : (n m : ℕ) (before : Option Edge) (e : Edge) → edgeFault n m before e ≡ none → (inside n m e ≡ true) × (orderFault before e ≡ none)
-unfolding edgeFault
-inside-clear n m before e h = inside-pick (inside n m e) (orderFault before e) h
+else-clear : (f next : Option Fault) → orElse f next ≡ none → (f ≡ none) × (next ≡ none)
+else-clear none next h = (refl, h)
+else-clear (some f) next h = impossible cc
 
-at-clear : (i : ℕ) (f : Option ℕ) (next : Option Fault) → faultAt i f next ≡ none → (f ≡ none) × (next ≡ none)
-at-clear i none next h = (refl, h)
-at-clear i (some k) next h = impossible cc
-
-clear-first : (n m i : ℕ) (before : Option Edge) (e : Edge) (es : List Edge) → firstFault n m before i (e ∷ es) ≡ none →
-    (edgeFault n m before e ≡ none) × (firstFault n m (some e) (suc i) es ≡ none)
+clear-first : (n m : ℕ) (before : Option Edge) (e : Placed) (es : List Placed) → firstFault n m before (e ∷ es) ≡ none →
+    (edgeFault n m before e ≡ none) × (firstFault n m (some (values e)) es ≡ none)
 unfolding firstFault
-clear-first n m i before e es h = at-clear i (edgeFault n m before e) _ h
+clear-first n m before e es h = else-clear (edgeFault n m before e) _ h
 
 -- edges without a fault are inside and ascend strictly
 pub record InOrder (n m : ℕ) (before : Option Edge) (es : List Edge) : Type 0 where
@@ -82,16 +91,16 @@ pub record InOrder (n m : ℕ) (before : Option Edge) (es : List Edge) : Type 0 
   pub ascend : ascending es ≡ true
   pub lead : (b : Edge) → before ≡ some b → leads b es ≡ true
 
-pub fault-free : (n m i : ℕ) (before : Option Edge) (es : List Edge) → firstFault n m before i es ≡ none → InOrder n m before es
+pub fault-free : (n m : ℕ) (before : Option Edge) (es : List Placed) → firstFault n m before es ≡ none → InOrder n m before (map values es)
 unfolding each ascending leads
-fault-free n m i before [] h = record { all-inside = refl; ascend = refl; lead = λ b e. refl }
-fault-free n m i before (e ∷ es) h =
-    let c = clear-first n m i before e es h in
+fault-free n m before [] h = record { all-inside = refl; ascend = refl; lead = λ b e. refl }
+fault-free n m before (e ∷ es) h =
+    let c = clear-first n m before e es h in
     let q = inside-clear n m before e (c .0) in
-    let r = fault-free n m (suc i) (some e) es (c .1) in
+    let r = fault-free n m (some (values e)) es (c .1) in
     record {
       all-inside = rw (q .0) (r .all-inside);
-      ascend = rw (r .lead e refl) (r .ascend);
+      ascend = rw (r .lead (values e) refl) (r .ascend);
       lead = λ b p. order-clear e b (rw p at (q .1));
     }
 
@@ -107,9 +116,22 @@ after-not a b h = cases-of (ltb (b .source) (a .source))
     let e = eq-eqb (a .source) (b .source) (sym s) in
     (rw (le-ltb (a .source) (b .source) (omega arith), e, le-ltb (a .label) (b .label) (omega arith)), rw (e, ne-eqb (a .label) (b .label) (λ z. omega arith))))
 
-order-free : (before : Option Edge) (e : Edge) → ((b : Edge) → before ≡ some b → comesBefore b e ≡ true) → orderFault before e ≡ none
+order-free : (before : Option Edge) (e : Placed) → ((b : Edge) → before ≡ some b → comesBefore b (values e) ≡ true) → orderFault before e ≡ none
 order-free none e h = refl
-order-free (some b) e h = let q = after-not e b (h b refl) in rw (q .0, q .1)
+order-free (some b) e h = let q = after-not (values e) b (h b refl) in rw (q .0, q .1)
+
+inside-free : (n m : ℕ) (before : Option Edge) (e : Placed) → inside n m (values e) ≡ true → edgeFault n m before e ≡ orderFault before e
+unfolding edgeFault inside
+inside-free n m before e h =
+    let s = ltb (e .source .value) n in
+    let l = ltb (e .label .value) m in
+    let t = ltb (e .target .value) n in
+    let rest = and-right s (l && t) h in
+    rw (
+      lt-leb n (e .source .value) (ltb-true _ _ (and-left s (l && t) h)),
+      lt-leb m (e .label .value) (ltb-true _ _ (and-left l t rest)),
+      lt-leb n (e .target .value) (ltb-true _ _ (and-right l t rest)),
+    )
 
 -- labels below 256: the order of edges is that of their ranks
 by-rank : (a b : Edge) → b .label < 256 → rankOf (some a) < rankOf (some b) → comesBefore a b ≡ true
@@ -133,45 +155,50 @@ pub ranked-edge : (last : ℕ) (e : Edge) → last ≡ rankOf (some e) → e .la
 ranked-edge last e is low = record { rank = is; label = λ b p. let q : e ≡ b = cc in rw (← q) low }
 
 -- 8, 9 or neither, by the rank of an edge and that of the edge before it
-module _ (e : Edge) (low : e .label < 256) (last : ℕ) where
-  pub rank-less : (before : Option Edge) → Ranked last before → rankOf (some e) < last → orderFault before e ≡ some 8
+module _ (e : Placed) (low : e .label .value < 256) (last : ℕ) where
+  pub rank-less : (before : Option Edge) → Ranked last before → rankOf (some (values e)) < last → orderFault before e ≡ faulty 8 (e .source)
   rank-less none r h = absurd (omega (arith, r .rank))
-  rank-less (some b) r h = rw (by-rank e b (r .label b refl) (omega (arith, r .rank)))
+  rank-less (some b) r h = rw (by-rank (values e) b (r .label b refl) (omega (arith, r .rank)))
 
-  pub rank-same : (before : Option Edge) → Ranked last before → rankOf (some e) ≡ last → orderFault before e ≡ some 9
+  pub rank-same : (before : Option Edge) → Ranked last before → rankOf (some (values e)) ≡ last → orderFault before e ≡ faulty 9 (e .source)
   rank-same none r h = absurd (omega (arith, r .rank))
-  rank-same (some b) r h = let q = at-rank e b low (r .label b refl) (h ∙ r .rank) in rw (q .0, q .1)
+  rank-same (some b) r h = let q = at-rank (values e) b low (r .label b refl) (h ∙ r .rank) in rw (q .0, q .1)
 
-  pub rank-more : (before : Option Edge) → Ranked last before → last < rankOf (some e) → orderFault before e ≡ none
+  pub rank-more : (before : Option Edge) → Ranked last before → last < rankOf (some (values e)) → orderFault before e ≡ none
   rank-more none r h = refl
-  rank-more (some b) r h = let q = after-not e b (by-rank b e low (omega (arith, r .rank))) in rw (q .0, q .1)
+  rank-more (some b) r h = let q = after-not (values e) b (by-rank b (values e) low (omega (arith, r .rank))) in rw (q .0, q .1)
 
-pub clear-order : (n m i : ℕ) (before : Option Edge) (es : List Edge) → each (inside n m) es ≡ true → ascending es ≡ true →
-    ((b : Edge) → before ≡ some b → leads b es ≡ true) → firstFault n m before i es ≡ none
-unfolding firstFault edgeFault each ascending leads
-clear-order n m i before [] ins asc lead = refl
-clear-order n m i before (e ∷ es) ins asc lead =
-    rw (and-left (inside n m e) (each (inside n m) es) ins, order-free before e lead)
-    (clear-order n m (suc i) (some e) es (and-right (inside n m e) (each (inside n m) es) ins) (and-right (leads e es) (ascending es) asc)
-    (λ b p. let q : e ≡ b = cc in rw (← q) (and-left (leads e es) (ascending es) asc)))
+pub clear-order : (n m : ℕ) (before : Option Edge) (es : List Placed) → each (inside n m) (map values es) ≡ true → ascending (map values es) ≡ true →
+    ((b : Edge) → before ≡ some b → leads b (map values es) ≡ true) → firstFault n m before es ≡ none
+unfolding firstFault each ascending leads
+clear-order n m before [] ins asc lead = refl
+clear-order n m before (e ∷ es) ins asc lead =
+    let ds = map values es in
+    let here = and-left (inside n m (values e)) (each (inside n m) ds) ins in
+    rw (inside-free n m before e here, order-free before e lead)
+    (clear-order n m (some (values e)) es (and-right (inside n m (values e)) (each (inside n m) ds) ins) (and-right (leads (values e) ds) (ascending ds) asc)
+    (λ b p. let q : values e ≡ b = cc in rw (← q) (and-left (leads (values e) ds) (ascending ds) asc)))
+
+-- whether edges have a fault does not depend on where they stand
+pub clear-elsewhere : (n m : ℕ) (es ds : List Placed) → map values es ≡ map values ds → firstFault n m none es ≡ none → firstFault n m none ds ≡ none
+clear-elsewhere n m es ds same clear =
+    let r : InOrder n m none (map values ds) = rw (← same) (fault-free n m none es clear) in
+    clear-order n m none ds (r .all-inside) (r .ascend) (r .lead)
+
+-- a list in order has none
+pub listed-clear : (n m : ℕ) (es : List Edge) → each (inside n m) es ≡ true → ascending es ≡ true → firstFault n m none (listedFrom 0 es) ≡ none
+listed-clear n m es ins asc =
+    let is = sym (listed-values 0 es) in
+    clear-order n m none (listedFrom 0 es) (rw is at ins) (rw is at asc) (λ b e. impossible cc)
 
 -- ---- the first fault, one edge further
 
--- a fault that is found decides, whatever follows
-pub decided : (i : ℕ) (f : Option ℕ) (next : Option Fault) (r : Fault) → some r ≡ faultAt i f none → some r ≡ faultAt i f next
-decided i (some k) next r h = h
-decided i none next r h = impossible cc
-
-pub undecided : (i : ℕ) (f : Option ℕ) → none ≡ faultAt i f none → f ≡ none
-undecided i (some k) h = impossible cc
-undecided i none h = refl
-
-pub fault-next : (n m i : ℕ) (before : Option Edge) (e : Edge) (es : List Edge) → none ≡ faultAt i (edgeFault n m before e) none →
-    firstFault n m before i (e ∷ es) ≡ firstFault n m (some e) (i + 1) es
+pub fault-next : (n m : ℕ) (before : Option Edge) (e : Placed) (es : List Placed) → edgeFault n m before e ≡ none →
+    firstFault n m before (e ∷ es) ≡ firstFault n m (some (values e)) es
 unfolding firstFault
-fault-next n m i before e es h = rw (undecided i (edgeFault n m before e) h, add-one i)
+fault-next n m before e es h = rw h
 
-pub fault-here : (n m i : ℕ) (before : Option Edge) (e : Edge) (es : List Edge) (r : Fault) → some r ≡ faultAt i (edgeFault n m before e) none →
-    some r ≡ firstFault n m before i (e ∷ es)
+pub fault-here : (n m : ℕ) (before : Option Edge) (e : Placed) (es : List Placed) (f : Fault) → edgeFault n m before e ≡ some f →
+    firstFault n m before (e ∷ es) ≡ some f
 unfolding firstFault
-fault-here n m i before e es r h = decided i (edgeFault n m before e) _ r h
+fault-here n m before e es f h = rw h

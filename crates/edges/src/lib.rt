@@ -1,13 +1,15 @@
 // Edges tested one behind another: 7, 8 and 9, and the cursor that walks over a file's edges.
+use layout::Field;
 use layout::Profile;
 use layout::edge::Edge;
+use layout::edge::Placed;
 use refusals::Kind;
 use refusals::Refusal;
 ghost use mathlib.Core.Path.{_≡_};
 ghost use mathlib.Core.Option.{some};
-ghost use Prim.Native.Nat.{_<_, _^_};
-ghost use Rattle.layout.specs.Code.{edgeOf, Usable, Small};
-ghost use Rattle.edges.specs.Walk.{rankOf, Tested, Next};
+ghost use Rattle.layout.specs.Code.{edgeOf, bare, Small};
+ghost use Rattle.edges.specs.Faults.{listedAt};
+ghost use Rattle.edges.specs.Walk.{rankOf, Tested, Passable, behind};
 
 // What the test of an edge finds: none of 7, 8 and 9, or the first of them.
 pub enum Verdict {
@@ -21,7 +23,7 @@ fn faulty(kind: Kind, place: usize) -> Verdict
     Verdict::Faulty(Refusal { kind, place })
 }
 
-// The place of an edge in the order of edges, counted from 1. Sources and labels are bytes: the two side by side are one number,
+// Where an edge stands in the order of edges, counted from 1. Sources and labels are bytes: the two side by side are one number,
 // and the order takes no jump that depends on which of them decides.
 pub fn rank(edge: Edge) -> usize
     requires { ⌜ Small edge ⌝ }
@@ -30,36 +32,55 @@ pub fn rank(edge: Edge) -> usize
     edge.source * 256 + edge.label + 1
 }
 
-// The one test of an edge with index i, behind the edge of rank `last`; 0: the first edge, which has none before it.
-pub fn test(n: usize, m: usize, i: usize, last: usize, edge: Edge) -> Verdict
-    requires { ⌜ Small edge ⌝ }
-    ensures { λ r. ⌜ Tested n m i last edge r ⌝ }
+// Edge `index` of a list: a list has no bits, and each field's place is the edge's index.
+pub fn listed(index: usize, edge: Edge) -> Placed
+    ensures { λ r. ⌜ r ≡ listedAt index (edgeOf edge) ⌝ }
+{
+    Placed {
+        source: Field {
+            value: edge.source,
+            place: index,
+        },
+        label: Field {
+            value: edge.label,
+            place: index,
+        },
+        target: Field {
+            value: edge.target,
+            place: index,
+        },
+    }
+}
+
+// The one test of an edge, behind the edge of rank `last`; 0: the first edge, which has none before it.
+pub fn test(n: usize, m: usize, last: usize, edge: Placed) -> Verdict
+    requires { ⌜ Small (bare edge) ⌝ }
+    ensures { λ r. ⌜ Tested n m last edge r ⌝ }
 {
     let source = edge.source;
     let label = edge.label;
     let target = edge.target;
-    if n <= source {
-        return faulty(Kind::Outside, i);
+    if n <= source.value {
+        return faulty(Kind::Outside, source.place);
     }
-    if m <= label {
-        return faulty(Kind::Outside, i);
+    if m <= label.value {
+        return faulty(Kind::Outside, label.place);
     }
-    if n <= target {
-        return faulty(Kind::Outside, i);
+    if n <= target.value {
+        return faulty(Kind::Outside, target.place);
     }
-    let here = rank(edge);
+    let here = rank(layout::edge::bare(edge));
     if here <= last {
         if here < last {
-            return faulty(Kind::Order, i);
+            return faulty(Kind::Order, source.place);
         }
-        return faulty(Kind::Repeated, i);
+        return faulty(Kind::Repeated, source.place);
     }
     Verdict::Faultless
 }
 
-// Where a walk over a file's edges stands: the edge before and its rank, the bit at which the next one begins, and its index.
+// Where a walk over a file's edges stands: the rank of the edge before, the bit at which the next one begins, and its index.
 pub struct Cursor {
-    pub before: Edge,
     pub rank: usize,
     pub place: usize,
     pub index: usize,
@@ -68,31 +89,24 @@ pub struct Cursor {
 impl Cursor {
     // Before the first edge, which begins at bit `place`.
     pub fn begin(place: usize) -> Cursor
-        ensures { λ r. ⌜ r ≡ record { before = record { source = 0; label = 0; target = 0 }; rank = 0; place = place; index = 0 } ⌝ }
+        ensures { λ r. ⌜ r ≡ record { rank = 0; place = place; index = 0 } ⌝ }
     {
         Cursor {
-            before: Edge {
-                source: 0,
-                label: 0,
-                target: 0,
-            },
             rank: 0,
             place,
             index: 0,
         }
     }
 
-    // One edge further, whatever it is. The test stands in the loops: a step that made both would be too long to be inlined there.
-    pub fn next(self, p: Profile, file: &[u8]) -> Cursor
-        requires { ⌜ Usable p × (self .place < 2 ^ 63) × (self .index < 2 ^ 63) ⌝ }
-        ensures { λ r. ⌜ Next p (now (file .entry)) self r ⌝ }
+    // Behind the edge that begins where it stands. Reading and testing it stand in the loops: a step that made all three would be
+    // too long to be inlined there.
+    pub fn behind(self, p: Profile, edge: Placed) -> Cursor
+        requires { ⌜ Passable p edge self ⌝ }
+        ensures { λ r. ⌜ r ≡ behind p edge self ⌝ }
     {
-        let place = self.place;
-        let edge = layout::edge::read(p, file, place);
         Cursor {
-            before: edge,
-            rank: rank(edge),
-            place: place + layout::edge_bits(p),
+            rank: rank(layout::edge::bare(edge)),
+            place: self.place + layout::edge_bits(p),
             index: self.index + 1,
         }
     }

@@ -12,8 +12,8 @@ use Rattle.refusals.specs.Refusals.{Outcome, accepted, Test, test, firstOf, roo
 use Rattle.layout.specs.declared.Profile.{Profile}
 use Rattle.layout.specs.declared.Reading.{Reading}
 use Rattle.layout.specs.Layout.{headerBits, bytesFor, lengthOf}
-use Rattle.layout.specs.Contents.{statesIn, labelsIn, startIn, countIn, edgesIn, lengthIn, fillingIn}
-use Rattle.edges.specs.Faults.{firstFault, edgesThen, placeInFile, placeInList}
+use Rattle.layout.specs.Contents.{statesIn, labelsIn, startIn, countIn, placedIn, lengthIn, fillingIn}
+use Rattle.edges.specs.Faults.{listedFrom, firstFault, edgesThen}
 
 -- ---- a file
 
@@ -42,7 +42,7 @@ headOf P file = firstOf (fileTests P file) (accepted (numbersIn P file))
 
 abbrev pub fromEdges : Profile → List ℕ → Outcome
 fromEdges P file =
-    edgesThen placeInFile (firstFault (statesIn P file) (labelsIn P file) none 0 (edgesIn P file))
+    edgesThen (firstFault (statesIn P file) (labelsIn P file) none (placedIn P file))
     (accepted (numbersIn P file))
 
 unfoldable pub checkOf : Profile → List ℕ → Outcome
@@ -74,5 +74,5 @@ writeTests P F whole =
 unfoldable pub writeOf : Profile → Filter → Bool → ℕ → Outcome
 writeOf P F whole room =
     firstOf (writeTests P F whole)
-    (edgesThen placeInList (firstFault (states F) (F .labels) none 0 (F .edges))
+    (edgesThen (firstFault (states F) (F .labels) none (listedFrom 0 (F .edges)))
     (firstOf (roomTest (lengthOf P F) room) (accepted (lengthOf P F ∷ []))))

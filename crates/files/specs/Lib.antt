@@ -1,4 +1,5 @@
 pub mod Files
 pub mod Tests
 pub mod Written
+pub mod Faulty
 pub mod Places

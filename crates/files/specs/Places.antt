@@ -1,33 +1,37 @@
--- A refusal's number has at most two digits, and its place is below 65,536: it is the index of an edge or of an observation, or 0.
+-- A refusal's number has at most two digits, and its place at most six: it is a bit's position in a file, the index of an edge in a list
+-- or of an observation, or 0.
 -- Assumes nothing.
 use Prim.Native.Nat.{ℕ, suc, _+_, _<_}
-use mathlib.Core.Path.{_≡_, refl}
-use mathlib.Core.Bool.{Bool, true, false, _&&_}
+use mathlib.Core.Path.{_≡_, refl, _∙_}
+use mathlib.Core.Bool.{Bool, true, false}
 use mathlib.Core.List.{List, [], _∷_}
 use mathlib.Core.Option.{Option, none, some}
 use native.Mathlib.Omega.{arith}
 use lib.Dec.{ltb}
 use lib.ListN.{length}
 use borrow.Author.Tests.{ltb-true}
+use Rattle.bits.proofs.Reading.{field-lt}
 use Rattle.meaning.specs.Pick.{pick}
 use Rattle.meaning.specs.Cases.{impossible, and-left, and-right}
-use Rattle.meaning.specs.Filter.{Edge, inside, comesBefore, samePlace}
+use Rattle.meaning.specs.Filter.{Edge}
 use Rattle.refusals.specs.Refusals.{Outcome, accepted, refused, Test, firstOf, onward}
-use Rattle.refusals.proofs.Laws.{Passed}
-use Rattle.layout.specs.Layout.{large}
-use Rattle.layout.specs.Contents.{statesIn, labelsIn, edgesIn}
-use Rattle.layout.proofs.Bounds.{large-usable, count-high}
-use Rattle.edges.specs.Faults.{orderFault, edgeFault, Fault, faultAt, firstFault, edgesThen}
+use Rattle.refusals.proofs.Laws.{Passed, numbersBelow}
+use Rattle.layout.specs.declared.Field.{Field}
+use Rattle.layout.specs.declared.edge.Placed.{Placed}
+use Rattle.layout.specs.Layout.{large, headerBits, edgeBits, edgesBegin}
+use Rattle.layout.specs.Contents.{statesIn, labelsIn, countIn, placedAt, placedIn}
+use Rattle.layout.proofs.Bounds.{large-usable, states-high}
+use Rattle.edges.specs.Faults.{listedAt, listedFrom, Fault, faulty, edgeFault, orElse, firstFault, edgesThen}
 use Rattle.files.specs.Files.{fileTests, checkOf}
-use Rattle.files.specs.Written.{length-edges-in}
+use Rattle.files.specs.Faulty.{Faulty, source, label, target, order, repeated, edge-faulty, fault-is, first-of}
 
 abbrev pub Small : Outcome → Type 0
-Small o = (number place : ℕ) → o ≡ refused number place → (number < 100) × (place < 65536)
+Small o = (number place : ℕ) → o ≡ refused number place → (number < 100) × (place < 1000000)
 
 pub small-accepted : (vs : List ℕ) → Small (accepted vs)
 small-accepted vs number place e = impossible cc
 
-pub small-at : (k p : ℕ) → k < 100 → p < 65536 → Small (refused k p)
+pub small-at : (k p : ℕ) → k < 100 → p < 1000000 → Small (refused k p)
 small-at k p hk hp number place e =
     let a : k ≡ number = cc in
     let b : p ≡ place = cc in
@@ -38,15 +42,11 @@ small-pick true o next h k = h
 small-pick false o next h k = k refl
 
 -- behind tests that were passed
-abbrev pub smallNumbers : List Test → Bool
-smallNumbers [] = true
-smallNumbers (t ∷ ts) = ltb (t .number) 100 && smallNumbers ts
-
-pub small-first : (ts : List Test) (next : Outcome) → smallNumbers ts ≡ true → (Passed ts → Small next) → Small (firstOf ts next)
+pub small-first : (ts : List Test) (next : Outcome) → numbersBelow 100 ts ≡ true → (Passed ts → Small next) → Small (firstOf ts next)
 small-first [] next e h = h tt
 small-first (t ∷ ts) next e h =
-    small-pick (t .given) (refused (t .number) 0) (firstOf ts next) (small-at (t .number) 0 (ltb-true (t .number) 100 (and-left _ (smallNumbers ts) e)) (omega arith))
-    (λ q. small-first ts next (and-right (ltb (t .number) 100) (smallNumbers ts) e) (λ p. h (q, p)))
+    small-pick (t .given) (refused (t .number) 0) (firstOf ts next) (small-at (t .number) 0 (ltb-true (t .number) 100 (and-left _ (numbersBelow 100 ts) e)) (omega arith))
+    (λ q. small-first ts next (and-right (ltb (t .number) 100) (numbersBelow 100 ts) e) (λ p. h (q, p)))
 
 pub small-onward : (o next : Outcome) → Small o → Small next → Small (onward o next)
 small-onward (accepted vs) next h k = k
@@ -54,53 +54,51 @@ small-onward (refused a b) next h k = h
 
 -- ---- the edges
 
-pick-some : (b : Bool) (k j : ℕ) (o : Option ℕ) → (o ≡ some j → j < 100) → k < 100 → pick b (some k) o ≡ some j → j < 100
-pick-some true k j o h l e = let z : k ≡ j = cc in omega arith
-pick-some false k j o h l e = h e
-
-pick-else : (b : Bool) (k j : ℕ) (o : Option ℕ) → (o ≡ some j → j < 100) → k < 100 → pick b o (some k) ≡ some j → j < 100
-pick-else true k j o h l e = h e
-pick-else false k j o h l e = let z : k ≡ j = cc in omega arith
-
-order-number : (before : Option Edge) (e : Edge) (k : ℕ) → orderFault before e ≡ some k → k < 100
-order-number none e k h = impossible cc
-order-number (some b) e k h =
-    pick-some (comesBefore e b) 8 k (pick (samePlace e b) (some 9) none) (pick-some (samePlace e b) 9 k none (λ z. impossible cc) (omega arith)) (omega arith) h
-
-edge-number : (n m : ℕ) (before : Option Edge) (e : Edge) (k : ℕ) → edgeFault n m before e ≡ some k → k < 100
-unfolding edgeFault
-edge-number n m before e k h = pick-else (inside n m e) 7 k (orderFault before e) (order-number before e k) (omega arith) h
-
--- a fault with a small number at an edge below a limit
+-- a fault with a small number, at a place below a limit
 abbrev pub SmallFault : ℕ → Fault → Type 0
-SmallFault limit f = (f .number < 100) × (f .index < limit)
+SmallFault limit f = (f .number < 10) × (f .place < limit)
 
-fault-here : (i : ℕ) (o : Option ℕ) (next : Option Fault) (f : Fault) (limit : ℕ) → ((k : ℕ) → o ≡ some k → k < 100) → i < limit → (next ≡ some f → SmallFault limit f)
-    → faultAt i o next ≡ some f → SmallFault limit f
-fault-here i (some k) next f limit n l h e =
-    let a : k ≡ f .number = cc in
-    let b : i ≡ f .index = cc in
-    (omega (arith, n k refl), omega arith)
-fault-here i none next f limit n l h e = h e
+small-fault : (limit number : ℕ) (x : Field) (f : Fault) → number < 10 → x .place < limit → faulty number x ≡ some f → SmallFault limit f
+small-fault limit number x f h l is = let at = fault-is f is in (omega (arith, at .0), omega (arith, at .1))
 
--- the index of a fault is that of an edge
-pub fault-small : (n m i : ℕ) (before : Option Edge) (es : List Edge) (f : Fault) → firstFault n m before i es ≡ some f → SmallFault (i + length es) f
-unfolding firstFault
-fault-small n m i before [] f e = impossible cc
-fault-small n m i before (d ∷ es) f e =
-    fault-here i (edgeFault n m before d) (firstFault n m (some d) (suc i) es) f (i + length (d ∷ es)) (edge-number n m before d) (omega arith)
-    (λ h. let r = fault-small n m (suc i) (some d) es f h in (r .0, omega (arith, r .1))) e
+-- of an edge whose fields are below the limit
+faulty-small : (n m limit : ℕ) (before : Option Edge) (e : Placed) (f : Fault) → e .source .place < limit → e .label .place < limit → e .target .place < limit →
+    Faulty n m before e f → SmallFault limit f
+faulty-small n m limit before e f s l t (source q is) = small-fault limit 7 (e .source) f (omega arith) s is
+faulty-small n m limit before e f s l t (label p q is) = small-fault limit 7 (e .label) f (omega arith) l is
+faulty-small n m limit before e f s l t (target p o q is) = small-fault limit 7 (e .target) f (omega arith) t is
+faulty-small n m limit before e f s l t (order b i p q is) = small-fault limit 8 (e .source) f (omega arith) s is
+faulty-small n m limit before e f s l t (repeated b i p q is) = small-fault limit 9 (e .source) f (omega arith) s is
 
-pub small-edges : (fault : Option Fault) (next : Outcome) → ((f : Fault) → fault ≡ some f → SmallFault 65536 f) → Small next → Small (edgesThen (λ i. i) fault next)
+pub small-edges : (fault : Option Fault) (next : Outcome) → ((f : Fault) → fault ≡ some f → SmallFault 1000000 f) → Small next → Small (edgesThen fault next)
 small-edges none next h k = k
-small-edges (some f) next h k = let s = h f refl in small-at (f .number) (f .index) (s .0) (s .1)
+small-edges (some f) next h k = let s = h f refl in small-at (f .number) (f .place) (omega (arith, s .0)) (s .1)
+
+-- the place of a list's fault is the index of an edge
+listed-by : (n m i : ℕ) (before : Option Edge) (d : Edge) (es : List Edge) (f : Fault) (o : Option Fault) → edgeFault n m before (listedAt i d) ≡ o →
+    orElse o (firstFault n m (some d) (listedFrom (suc i) es)) ≡ some f →
+    (firstFault n m (some d) (listedFrom (suc i) es) ≡ some f → SmallFault (suc i + length es) f) → SmallFault (i + length (d ∷ es)) f
+listed-by n m i before d es f (some g) q h later =
+    faulty-small n m (i + length (d ∷ es)) before (listedAt i d) f (omega arith) (omega arith) (omega arith) (edge-faulty n m before (listedAt i d) f (q ∙ h))
+listed-by n m i before d es f none q h later = let r = later h in (r .0, omega (arith, r .1))
+
+pub listed-small : (n m i : ℕ) (before : Option Edge) (es : List Edge) (f : Fault) → firstFault n m before (listedFrom i es) ≡ some f → SmallFault (i + length es) f
+unfolding firstFault listedFrom
+listed-small n m i before [] f e = impossible cc
+listed-small n m i before (d ∷ es) f e =
+    listed-by n m i before d es f (edgeFault n m before (listedAt i d)) refl e (listed-small n m (suc i) (some d) es f)
 
 -- ---- of a file
 
+-- a file states at most 32,767 edges, behind at most 256 colours
+pub placed-small : (s : List ℕ) (f : Fault) → firstFault (statesIn large s) (labelsIn large s) none (placedIn large s) ≡ some f → SmallFault 1000000 f
+unfolding placedIn placedAt edgesBegin headerBits edgeBits countIn
+placed-small s f e =
+    let first = first-of large s (statesIn large s) (labelsIn large s) none (edgesBegin large (statesIn large s)) (countIn large s) f e in
+    let most = field-lt s 22 15 in
+    let few = states-high large large-usable s in
+    faulty-small _ _ 1000000 _ _ f (omega (arith, first .inside)) (omega (arith, first .inside)) (omega (arith, first .inside)) (first .fault)
+
 pub check-small : (s : List ℕ) → Small (checkOf large s)
 unfolding checkOf fileTests
-check-small s =
-    small-first (fileTests large s) _ refl λ _.
-    (small-edges (firstFault (statesIn large s) (labelsIn large s) none 0 (edgesIn large s)) _
-    (λ f e. let r = fault-small _ _ 0 none (edgesIn large s) f e in (r .0, omega (arith, r .1, length-edges-in large s, count-high large large-usable s)))
-    (small-accepted _))
+check-small s = small-first (fileTests large s) _ refl λ _. small-edges _ _ (placed-small s) (small-accepted _)

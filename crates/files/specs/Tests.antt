@@ -1,26 +1,26 @@
 -- Tests in a row, taken apart: what an accepted file and an accepted filter have passed.
 -- Assumes nothing.
 use mathlib.Core.Path.{_≡_, refl, sym, ap, _∙_}
-use mathlib.Core.Bool.{Bool, true, false, not, _&&_}
-use mathlib.Core.List.{List, [], _∷_}
+use mathlib.Core.Bool.{Bool, true, _&&_}
+use mathlib.Core.List.{List, [], _∷_, map}
 use mathlib.Core.Option.{none}
 use Prim.Native.Nat.{ℕ, _*_, _^_, _≤_, _<_}
 use native.Mathlib.Omega.{arith}
-use lib.Dec.{eqb, leb, ltb}
+use lib.Dec.{eqb, leb}
 use lib.ListN.{length}
 use borrow.Author.Tests.{lt-ltb, le-ltb, le-leb, lt-leb, eq-eqb, ltb-false, leb-true, leb-false, eqb-true, not-false}
 use Rattle.meaning.specs.Cases.{and-left, and-right}
 use Rattle.meaning.specs.Filter.{Filter, states, inOrder}
 use Rattle.refusals.specs.declared.Refusal.{Refusal}
-use Rattle.refusals.specs.Refusals.{Outcome, accepted, refusalOutcome, onward, roomTest}
+use Rattle.refusals.specs.Refusals.{accepted, refusalOutcome, onward, roomTest}
 use Rattle.refusals.proofs.Laws.{first-accepted, first-passed, first-onward}
 use Rattle.layout.specs.declared.Profile.{Profile}
 use Rattle.layout.specs.declared.Reading.{Reading}
 use Rattle.layout.specs.Layout.{headerBits, bytesFor, edgesBegin, lengthOf}
-use Rattle.layout.specs.Contents.{statesIn, labelsIn, startIn, countIn, edgesFrom, edgesIn, lengthIn, fillingIn}
-use Rattle.edges.specs.Faults.{firstFault, placeInFile, placeInList}
+use Rattle.layout.specs.Contents.{statesIn, labelsIn, startIn, countIn, placedFrom, placedIn, values, edgesFrom, edgesIn, lengthIn, fillingIn}
+use Rattle.edges.specs.Faults.{listedFrom, firstFault}
 use Rattle.edges.specs.Walk.{faultIs}
-use Rattle.edges.proofs.Tests.{edges-accepted, fault-free}
+use Rattle.edges.proofs.Tests.{edges-accepted, listed-values, InOrder, fault-free}
 use Rattle.files.specs.Files.{readingOutcome, fileTests, numbersIn, headOf, fromEdges, checkOf, within, allBelow, holdable, writeTests, writeOf}
 
 -- ---- a file
@@ -32,14 +32,14 @@ pub record Sound (P : Profile) (s : List ℕ) : Type 0 where
   pub count-in : countIn P s ≤ statesIn P s * labelsIn P s
   pub long : length s ≡ lengthIn P s
   pub filled : fillingIn P s ≡ 0
-  pub clear : firstFault (statesIn P s) (labelsIn P s) none 0 (edgesIn P s) ≡ none
+  pub clear : firstFault (statesIn P s) (labelsIn P s) none (placedIn P s) ≡ none
 
 pub check-sound : (P : Profile) (s vs : List ℕ) → checkOf P s ≡ accepted vs → Sound P s × (numbersIn P s ≡ vs)
 unfolding checkOf fileTests
 check-sound P s vs h =
     let p = first-accepted (fileTests P s) (fromEdges P s) vs h in
     let t = p .0 in
-    let q = edges-accepted placeInFile (firstFault (statesIn P s) (labelsIn P s) none 0 (edgesIn P s)) (accepted (numbersIn P s)) vs (p .1) in (
+    let q = edges-accepted (firstFault (statesIn P s) (labelsIn P s) none (placedIn P s)) (accepted (numbersIn P s)) vs (p .1) in (
       record {
         begins = ltb-false (length s) (bytesFor (headerBits P)) (t .0);
         start-in = leb-false (statesIn P s) (startIn P s) (t .1 .0);
@@ -113,23 +113,27 @@ head-is P s r h =
 pub head-refused : (P : Profile) (s : List ℕ) (why : Refusal) → headOf P s ≡ refusalOutcome why → checkOf P s ≡ refusalOutcome why
 head-refused P s why h = check-headed P s ∙ ap (λ o. onward o (fromEdges P s)) h
 
-edged : (P : Profile) (s : List ℕ) → edgesFrom P s (edgesBegin P (statesIn P s)) (countIn P s) ≡ edgesIn P s
-unfolding edgesIn
-edged P s = refl
+placed : (P : Profile) (s : List ℕ) → placedFrom P s (edgesBegin P (statesIn P s)) (countIn P s) ≡ placedIn P s
+unfolding placedIn
+placed P s = refl
 
 -- what the edges decide, as they are read from where they begin
 module _ (P : Profile) (s : List ℕ) (r : Reading) (is : HeadIs P s r) (at : ℕ) (begin : at ≡ edgesBegin P (r .states)) where
+  placed-read : placedFrom P s at (r .edges) ≡ placedIn P s
+  placed-read = rw (begin, is .states-are, is .count-is) (placed P s)
+
   pub edges-read : edgesFrom P s at (r .edges) ≡ edgesIn P s
-  edges-read = rw (begin, is .states-are, is .count-is) (edged P s)
+  unfolding edgesFrom edgesIn
+  edges-read = ap (map values) placed-read
 
-  pub faults-read : firstFault (r .states) (r .labels) none 0 (edgesFrom P s at (r .edges)) ≡ firstFault (statesIn P s) (labelsIn P s) none 0 (edgesIn P s)
-  faults-read = rw (edges-read, is .states-are, is .labels-are)
+  faults-read : firstFault (r .states) (r .labels) none (placedFrom P s at (r .edges)) ≡ firstFault (statesIn P s) (labelsIn P s) none (placedIn P s)
+  faults-read = rw (placed-read, is .states-are, is .labels-are)
 
-  pub check-faultless : firstFault (r .states) (r .labels) none 0 (edgesFrom P s at (r .edges)) ≡ none → checkOf P s ≡ readingOutcome r
+  pub check-faultless : firstFault (r .states) (r .labels) none (placedFrom P s at (r .edges)) ≡ none → checkOf P s ≡ readingOutcome r
   check-faultless h =
       is .onto-edges ∙ rw (sym faults-read ∙ h) (ap accepted (sym (rw (is .states-are, is .labels-are, is .start-is, is .count-is))))
 
-  pub check-faulty : (why : Refusal) → firstFault (r .states) (r .labels) none 0 (edgesFrom P s at (r .edges)) ≡ faultIs why → checkOf P s ≡ refusalOutcome why
+  pub check-faulty : (why : Refusal) → firstFault (r .states) (r .labels) none (placedFrom P s at (r .edges)) ≡ faultIs why → checkOf P s ≡ refusalOutcome why
   check-faulty why h = is .onto-edges ∙ rw (sym faults-read ∙ h)
 
 -- ---- a filter that is to be written
@@ -143,13 +147,18 @@ pub record Writable (P : Profile) (F : Filter) : Type 0 where
   pub colours-below : allBelow (2 ^ P .colour) (F .colours) ≡ true
   pub start-in : F .start < states F
   pub count-in : length (F .edges) ≤ states F * F .labels
-  pub clear : firstFault (states F) (F .labels) none 0 (F .edges) ≡ none
+  pub clear : firstFault (states F) (F .labels) none (listedFrom 0 (F .edges)) ≡ none
+
+-- its edges are inside and ascend strictly
+pub writable-edges : (P : Profile) (F : Filter) → Writable P F → InOrder (states F) (F .labels) none (F .edges)
+writable-edges P F w =
+    rw (listed-values 0 (F .edges)) at (fault-free (states F) (F .labels) none (listedFrom 0 (F .edges)) (w .clear))
 
 -- what is accepted is in order: the start is a state, every edge is inside, and the edges ascend strictly
 pub writable-in-order : (P : Profile) (F : Filter) → Writable P F → inOrder F ≡ true
 unfolding inOrder
 writable-in-order P F w =
-    let r = fault-free (states F) (F .labels) 0 none (F .edges) (w .clear) in
+    let r = writable-edges P F w in
     rw (lt-ltb _ _ (w .start-in), r .all-inside) (r .ascend)
 
 -- what the widths can hold
@@ -185,7 +194,7 @@ unfolding writeOf writeTests
 write-written P F whole room vs h =
     let p = first-accepted (writeTests P F whole) _ vs h in
     let t = p .0 in
-    let q = edges-accepted placeInList (firstFault (states F) (F .labels) none 0 (F .edges)) _ vs (p .1) in
+    let q = edges-accepted (firstFault (states F) (F .labels) none (listedFrom 0 (F .edges))) _ vs (p .1) in
     let r = first-accepted (roomTest (lengthOf P F) room) (accepted (lengthOf P F ∷ [])) vs (q .1) in
     let hold = holdable P (F .colours) (F .labels) in
     let a : hold && whole ≡ true = not-false (hold && whole) (t .0) in

@@ -2,7 +2,7 @@
 -- Assumes nothing.
 use mathlib.Core.Path.{_≡_, refl, sym, ap, _∙_}
 use mathlib.Core.Bool.{true, false, _&&_}
-use mathlib.Core.List.{List, [], _∷_, _++_}
+use mathlib.Core.List.{List, [], _∷_, _++_, map}
 use mathlib.Core.Option.{none}
 use Prim.Native.Nat.{ℕ, zero, suc, _+_, _*_, _-_, _^_, _≤_, _<_}
 use native.Mathlib.Nat.{zero-add, mul-comm, mul-le-mul, lt-of-lt-of-le, lt-of-le-of-lt, le-trans}
@@ -23,14 +23,14 @@ use Rattle.meaning.specs.Filter.{Edge, Filter, states, inside, each, inOrder}
 use Rattle.layout.specs.declared.Profile.{Profile}
 use Rattle.layout.specs.Layout.{large, headerBits, edgeBits, edgesBegin, fileBits, bytesFor, fileLength, fillBits, edgeWidths, fileWidths, flat, fileValues, lengthOf, written, threes}
 use Rattle.layout.specs.Code.{Usable}
-use Rattle.layout.specs.Contents.{statesIn, labelsIn, startIn, countIn, coloursIn, edgesFrom, edgesIn, filterIn, lengthIn, fillingIn}
+use Rattle.layout.specs.Contents.{statesIn, labelsIn, startIn, countIn, coloursIn, placedIn, values, edgesFrom, edgesIn, filterIn, lengthIn, fillingIn}
 use Rattle.files.specs.Files.{checkOf, allBelow}
 use Rattle.refusals.specs.Refusals.{accepted, laid}
 use Rattle.layout.proofs.Bounds.{large-usable, states-low, labels-low, states-fit, labels-fit, states-pow, labels-pow}
 use Rattle.layout.proofs.EdgeLists.{fields-edges, length-edges, length-widths, total-edges, length-flat, threes-flat}
 use Rattle.meaning.specs.Cases.{and-left, and-right}
-use Rattle.files.specs.Tests.{Sound, check-sound, Writable, writable-in-order}
-use Rattle.edges.proofs.Tests.{fault-free}
+use Rattle.edges.proofs.Tests.{listed-values, clear-elsewhere}
+use Rattle.files.specs.Tests.{Sound, check-sound, Writable, writable-edges, writable-in-order}
 
 -- ---- the fields of a file
 
@@ -121,6 +121,10 @@ one-put : (s : List ℕ) (at w : ℕ) → putFields s at (w ∷ []) (0 ∷ []) �
 unfolding putFields
 one-put s at w = refl
 
+edges-placed : (P : Profile) (s : List ℕ) → map values (placedIn P s) ≡ edgesIn P s
+unfolding edgesIn
+edges-placed P s = refl
+
 -- What a file holds is the filter F, with zero filling.
 pub record Holds (P : Profile) (s : List ℕ) (F : Filter) : Type 0 where
   pub states-are : statesIn P s ≡ states F
@@ -155,7 +159,7 @@ module _ (P : Profile) (ok : Usable P) (F : Filter) (w : Writable P F) where
   pub edges-fit : Fit (edgeWidths P (length (F .edges))) (flat (F .edges))
   edges-fit =
       fit-edges P (states F) (F .labels) (F .edges) (w .states-high) (w .labels-high)
-      (fault-free (states F) (F .labels) 0 none (F .edges) (w .clear) .all-inside)
+      (writable-edges P F w .all-inside)
 
   file-fit : Fit (fileWidths P (states F) (length (F .edges))) (fileValues F)
   unfolding fileWidths fileValues
@@ -224,7 +228,7 @@ module _ (P : Profile) (ok : Usable P) (F : Filter) (w : Writable P F) where
       ∙ rw length-written
 
   pub written-holds : Holds P (written P F) F
-  unfolding statesIn labelsIn startIn countIn coloursIn edgesIn fillingIn fileValues
+  unfolding statesIn labelsIn startIn countIn coloursIn edgesIn placedIn edgesFrom fillingIn fileValues
   written-holds =
       let s = written P F in
       let n = states F in
@@ -269,7 +273,7 @@ module _ (P : Profile) (ok : Usable P) (F : Filter) (w : Writable P F) where
         count-in = rw (h .count-is, h .states-are, h .labels-are) (w .count-in);
         long = length-written ∙ rw (h .count-is, h .states-are);
         filled = h .filled;
-        clear = rw (h .states-are, h .labels-are, h .edges-are) (w .clear);
+        clear = rw (h .states-are, h .labels-are) (clear-elsewhere _ _ _ (placedIn P (written P F)) (listed-values 0 (F .edges) ∙ sym (edges-placed P (written P F) ∙ h .edges-are)) (w .clear));
       }
 
 -- ---- what is read is written
@@ -279,7 +283,7 @@ unfolding coloursIn
 length-colours P s = length-fields s (headerBits P) (replicate (statesIn P s) (P .colour)) ∙ length-replicate (statesIn P s) (P .colour)
 
 pub length-edges-in : (P : Profile) (s : List ℕ) → length (edgesIn P s) ≡ countIn P s
-unfolding edgesIn
+unfolding edgesIn placedIn edgesFrom
 length-edges-in P s = length-edges P s (edgesBegin P (statesIn P s)) (countIn P s)
 
 pub length-filter : (P : Profile) (s : List ℕ) → states (filterIn P s) ≡ statesIn P s
@@ -307,7 +311,7 @@ module _ (P : Profile) (ok : Usable P) (s : List ℕ) (h : Sound P s) where
     colours-below = at-below (2 ^ P .colour) (coloursIn P s) colour-fits;
     start-in = rw (length-colours P s) (h .start-in);
     count-in = rw (length-colours P s, length-edges-in P s) (h .count-in);
-    clear = rw (length-colours P s) (h .clear);
+    clear = rw (length-colours P s) (clear-elsewhere _ _ (placedIn P s) _ (edges-placed P s ∙ sym (listed-values 0 (edgesIn P s))) (h .clear));
   }
 
   length-is : length s ≡ fileLength P (statesIn P s) (countIn P s)
@@ -315,7 +319,7 @@ module _ (P : Profile) (ok : Usable P) (s : List ℕ) (h : Sound P s) where
   length-is = h .long
 
   values-read : fileValues (filterIn P s) ≡ fields s 0 (fileWidths P (statesIn P s) (countIn P s))
-  unfolding fileValues filterIn statesIn labelsIn startIn countIn coloursIn edgesIn fillingIn
+  unfolding fileValues filterIn statesIn labelsIn startIn countIn coloursIn edgesIn placedIn edgesFrom fillingIn
   values-read =
       let a : length (coloursIn P s) - 1 ≡ field s 0 (P .states) = omega (arith, length-colours P s) in
       let b : field s (P .states) (P .labels) + 1 - 1 ≡ field s (P .states) (P .labels) = omega arith in

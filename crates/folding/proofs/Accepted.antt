@@ -2,7 +2,6 @@
 use Prim.Native.Nat.{ℕ, _+_, _*_, _^_, _≤_, _<_}
 use mathlib.Core.Path.{_≡_, refl, sym, ap, _∙_}
 use mathlib.Core.Bool.{true, _&&_}
-use mathlib.Core.Option.{none}
 use mathlib.Core.List.{List, [], _∷_}
 use native.Mathlib.Nat.{mul-le-mul, le-refl, le-trans}
 use native.Mathlib.Omega.{arith}
@@ -26,7 +25,7 @@ use Rattle.layout.specs.Contents.{filterIn}
 use Rattle.refusals.specs.Refusals.{accepted}
 use Rattle.files.specs.Files.{allBelow, numbersIn, checkOf}
 use Rattle.files.specs.Tests.{Sound, check-sound, sound-check, Writable, writable-in-order}
-use Rattle.edges.proofs.Tests.{clear-order}
+use Rattle.edges.proofs.Tests.{listed-clear}
 use Rattle.files.specs.Written.{at-below, colours-fit, states≤256, length-written, written-sound, read-writable, read-back}
 
 module _ (P : Profile) (ok : Usable P) (F : Filter) (w : Writable P F) where
@@ -77,9 +76,9 @@ module _ (P : Profile) (ok : Usable P) (F : Filter) (w : Writable P F) where
         colours-below = at-below (2 ^ P .colour) (R .colours) colour-below;
         start-in = start-in;
         count-in = count-in;
-        clear = clear-order (states R) (R .labels) 0 none (R .edges)
+        clear = listed-clear (states R) (R .labels) (R .edges)
             (and-left (each (inside (states R) (R .labels)) (R .edges)) (ascending (R .edges)) rest)
-            (and-right (each (inside (states R) (R .labels)) (R .edges)) (ascending (R .edges)) rest) (λ b e. cc);
+            (and-right (each (inside (states R) (R .labels)) (R .edges)) (ascending (R .edges)) rest);
       }
 
   pub reduced-shorter : lengthOf P (reduced F) ≤ lengthOf P F

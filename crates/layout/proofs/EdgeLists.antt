@@ -1,8 +1,7 @@
--- Laws of edges: read as one field, listed as bytes, and searched for the first fault.
+-- Laws of edges: read as one field, and listed as bytes.
 -- Assumes nothing.
 use mathlib.Core.Path.{_≡_, refl, sym, ap, _∙_}
-use mathlib.Core.List.{List, [], _∷_, _++_, append-assoc}
-use mathlib.Core.Option.{Option, none, some}
+use mathlib.Core.List.{List, [], _∷_, _++_, map, append-assoc}
 use Prim.Native.Nat.{ℕ, zero, suc, _+_, _*_, _-_, _/_, _%_, _^_, _≤_, _<_}
 use native.Mathlib.Nat.{add-assoc, add-zero, mul-zero, mul-suc, suc-add, zero-add, mod-eq-of-lt}
 use native.Mathlib.Numerals.{add-one}
@@ -19,9 +18,10 @@ use Rattle.bits.proofs.Parts.{store-more}
 use Rattle.meaning.specs.Filter.{Edge}
 use Rattle.layout.specs.declared.Profile.{Profile}
 use Rattle.layout.specs.Layout.{edgeBits, edgeWidths, flat, putEdges, threes}
-use Rattle.layout.specs.Code.{edgeIn}
-use Rattle.layout.specs.Contents.{edgeAt, edgesFrom}
-use Rattle.meaning.specs.Cases.{impossible}
+use Rattle.layout.specs.declared.edge.Edge as layout
+use Rattle.layout.specs.declared.edge.Placed.{Placed}
+use Rattle.layout.specs.Code.{edgeOf, edgeIn, bare}
+use Rattle.layout.specs.Contents.{placedAt, placedFrom, values, edgeAt, edgesFrom}
 
 -- ---- as bytes, three an edge
 
@@ -79,19 +79,24 @@ threes-end vs o h = few (drop o vs) (rw (length-drop o vs) (omega arith))
 -- ---- in a file
 
 pub length-edges : (P : Profile) (s : List ℕ) (at e : ℕ) → length (edgesFrom P s at e) ≡ e
-unfolding edgesFrom
+unfolding edgesFrom placedFrom
 length-edges P s at zero = refl
 length-edges P s at (suc e) = ap suc (length-edges P s (at + edgeBits P) e)
 
 -- the edges from index i on begin with the one that stands there
-pub edges-cons : (P : Profile) (s : List ℕ) (at e i : ℕ) → i < e →
+pub placed-cons : (P : Profile) (s : List ℕ) (at e i : ℕ) → i < e →
+    placedFrom P s at (e - i) ≡ placedAt P s at ∷ placedFrom P s (at + edgeBits P) (e - (i + 1))
+unfolding placedFrom
+placed-cons P s at e i h = let k : e - i ≡ suc (e - (i + 1)) = omega arith in rw k
+
+edges-cons : (P : Profile) (s : List ℕ) (at e i : ℕ) → i < e →
     edgesFrom P s at (e - i) ≡ edgeAt P s at ∷ edgesFrom P s (at + edgeBits P) (e - (i + 1))
-unfolding edgesFrom
-edges-cons P s at e i h = let k : e - i ≡ suc (e - (i + 1)) = omega arith in rw k
+unfolding edgesFrom edgeAt
+edges-cons P s at e i h = ap (map values) (placed-cons P s at e i h)
 
 -- the first edges, and those behind them
 edges-append : (P : Profile) (s : List ℕ) (at i k : ℕ) → edgesFrom P s at (i + k) ≡ edgesFrom P s at i ++ edgesFrom P s (at + edgeBits P * i) k
-unfolding edgesFrom
+unfolding edgesFrom placedFrom
 edges-append P s at zero k = rw (zero-add k, mul-zero (edgeBits P), add-zero at)
 edges-append P s at (suc i) k =
     let h : at + edgeBits P + edgeBits P * i ≡ at + edgeBits P * suc i = omega (arith, mul-suc (edgeBits P) i) in
@@ -107,7 +112,7 @@ edges-around P s at e i h =
 -- one edge more, at the end
 edges-snoc : (P : Profile) (s : List ℕ) (at e : ℕ) →
     edgesFrom P s at (suc e) ≡ edgesFrom P s at e ++ (edgeAt P s (at + edgeBits P * e) ∷ [])
-unfolding edgesFrom
+unfolding edgesFrom placedFrom edgeAt
 edges-snoc P s at zero = rw (mul-zero (edgeBits P), add-zero at)
 edges-snoc P s at (suc e) =
     let h : at + edgeBits P + edgeBits P * e ≡ at + edgeBits P * suc e = omega (arith, mul-suc (edgeBits P) e) in
@@ -119,7 +124,7 @@ edges-more P s at e = ap (edgesFrom P s at) (add-one e) ∙ edges-snoc P s at e
 
 -- the edges as fields
 pub fields-edges : (P : Profile) (s : List ℕ) (at e : ℕ) → fields s at (edgeWidths P e) ≡ flat (edgesFrom P s at e)
-unfolding fields edgeWidths flat edgesFrom edgeAt edgeBits
+unfolding fields edgeWidths flat edgesFrom placedFrom edgeAt placedAt edgeBits
 fields-edges P s at zero = refl
 fields-edges P s at (suc e) =
     rw (← fields-edges P s (at + (P .states + P .labels + P .states)) e, ← add-assoc at (P .states + P .labels) (P .states), ← add-assoc at (P .states) (P .labels))
@@ -133,6 +138,11 @@ pub total-edges : (P : Profile) (e : ℕ) → total (edgeWidths P e) ≡ edgeBit
 unfolding total edgeWidths edgeBits
 total-edges P zero = omega arith
 total-edges P (suc e) = rw (total-edges P e, mul-suc (P .states + P .labels + P .states) e) (omega arith)
+
+-- an edge that was read, without its places
+pub bare-read : (P : Profile) (s : List ℕ) (at : ℕ) (q : Placed) (e : layout.Edge) → q ≡ placedAt P s at → e ≡ bare q → edgeOf e ≡ edgeAt P s at
+unfolding edgeAt
+bare-read P s at q e read is = ap edgeOf is ∙ ap values read
 
 -- ---- in a room
 

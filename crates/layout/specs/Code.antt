@@ -8,6 +8,7 @@ use Rattle.pen.specs.Runs.{Fit, Ready, placeOf}
 use Rattle.pen.specs.declared.Pen.{Pen}
 use Rattle.layout.specs.declared.Profile.{Profile}
 use Rattle.layout.specs.declared.edge.Edge.{Edge}
+use Rattle.layout.specs.declared.edge.Placed.{Placed}
 use Rattle.layout.specs.Layout.{headerWidths, headerValues}
 
 -- Widths that the code can use: states, labels and colours are bytes, and a start and a count of edges fit their fields, for a
@@ -30,6 +31,10 @@ pub record Heading (P : Profile) (n m start e : ℕ) : Type 0 where
 
 abbrev pub edgeOf : Edge → meaning.Edge
 edgeOf e = record { source = e .source; label = e .label; target = e .target }
+
+-- The values of an edge's fields, without their places.
+abbrev pub bare : Placed → Edge
+bare e = record { source = e .source .value; label = e .label .value; target = e .target .value }
 
 -- The edge that begins at place o of a list of bytes: source, label, target.
 abbrev pub edgeIn : List ℕ → ℕ → meaning.Edge

@@ -1,12 +1,14 @@
 -- What the bytes of a file hold, read at their positions (document 01, "The filter file"). Bits past the end count as 0.
 -- Assumes nothing.
 use Prim.Native.Nat.{ℕ, zero, suc, _+_}
-use mathlib.Core.List.{List, [], _∷_}
+use mathlib.Core.List.{List, [], _∷_, map}
 use lib.ListN.{replicate}
 use Rattle.bits.specs.Bits.{field}
 use Rattle.pen.specs.Runs.{fields}
 use Rattle.meaning.specs.Filter.{Edge, Filter}
 use Rattle.layout.specs.declared.Profile.{Profile}
+use Rattle.layout.specs.declared.Field.{Field}
+use Rattle.layout.specs.declared.edge.Placed.{Placed}
 use Rattle.layout.specs.declared.Reading.{Reading}
 use Rattle.layout.specs.Layout.{headerBits, edgeBits, edgesBegin, fileBits, fileLength, fillBits}
 
@@ -33,21 +35,38 @@ readingIn P file = record { states = statesIn P file; labels = labelsIn P file; 
 unfoldable pub coloursIn : Profile → List ℕ → List ℕ
 coloursIn P file = fields file (headerBits P) (replicate (statesIn P file) (P .colour))
 
--- The edge whose first bit is at `at`: source, label, target.
-unfoldable pub edgeAt : Profile → List ℕ → ℕ → Edge
-edgeAt P file at = record {
-  source = field file at (P .states);
-  label = field file (at + P .states) (P .labels);
-  target = field file (at + P .states + P .labels) (P .states);
+-- A field that is read: its value, and as its place the position of its first bit, counted from 0.
+abbrev pub fieldInFile : List ℕ → ℕ → ℕ → Field
+fieldInFile file at width = record { value = field file at width; place = at }
+
+-- The fields of the edge whose first bit is at `at`: source, label, target.
+unfoldable pub placedAt : Profile → List ℕ → ℕ → Placed
+placedAt P file at = record {
+  source = fieldInFile file at (P .states);
+  label = fieldInFile file (at + P .states) (P .labels);
+  target = fieldInFile file (at + P .states + P .labels) (P .states);
 }
 
--- e edges, one after another from `at` on.
+-- Those of e edges, one after another from `at` on.
+unfoldable pub placedFrom : Profile → List ℕ → ℕ → ℕ → List Placed
+placedFrom P file at zero = []
+placedFrom P file at (suc e) = placedAt P file at ∷ placedFrom P file (at + edgeBits P) e
+
+unfoldable pub placedIn : Profile → List ℕ → List Placed
+placedIn P file = placedFrom P file (edgesBegin P (statesIn P file)) (countIn P file)
+
+-- The edge that the fields' values are.
+abbrev pub values : Placed → Edge
+values e = record { source = e .source .value; label = e .label .value; target = e .target .value }
+
+unfoldable pub edgeAt : Profile → List ℕ → ℕ → Edge
+edgeAt P file at = values (placedAt P file at)
+
 unfoldable pub edgesFrom : Profile → List ℕ → ℕ → ℕ → List Edge
-edgesFrom P file at zero = []
-edgesFrom P file at (suc e) = edgeAt P file at ∷ edgesFrom P file (at + edgeBits P) e
+edgesFrom P file at e = map values (placedFrom P file at e)
 
 unfoldable pub edgesIn : Profile → List ℕ → List Edge
-edgesIn P file = edgesFrom P file (edgesBegin P (statesIn P file)) (countIn P file)
+edgesIn P file = map values (placedIn P file)
 
 -- The filter in the file.
 unfoldable pub filterIn : Profile → List ℕ → Filter

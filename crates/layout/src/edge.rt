@@ -1,4 +1,5 @@
 // One edge, read from a file or written to one.
+use crate::Field;
 use crate::Profile;
 use pen::Pen;
 ghost use mathlib.Core.Path.{_≡_};
@@ -6,8 +7,8 @@ ghost use mathlib.Core.List.{_∷_, []};
 ghost use Prim.Native.Nat.{_+_, _*_, _<_, _^_};
 ghost use Rattle.pen.specs.Runs.{inked, placeOf, Drawn};
 ghost use Rattle.layout.specs.Layout.{edgeWidths, flat};
-ghost use Rattle.layout.specs.Contents.{edgeAt};
-ghost use Rattle.layout.specs.Code.{Usable, Small, Pushable, edgeOf};
+ghost use Rattle.layout.specs.Contents.{placedAt};
+ghost use Rattle.layout.specs.Code.{Usable, Small, Pushable, edgeOf, bare};
 
 pub struct Edge {
     pub source: usize,
@@ -15,18 +16,48 @@ pub struct Edge {
     pub target: usize,
 }
 
-// The edge whose first bit is `at`, read as one field and taken apart.
-pub fn read(p: Profile, file: &[u8], at: usize) -> Edge
-    requires { ⌜ Usable p ⌝ }
-    ensures { λ r. ⌜ (edgeOf r ≡ edgeAt p (now (file .entry)) at) × Small r ⌝ }
+// An edge's three fields with their places.
+pub struct Placed {
+    pub source: Field,
+    pub label: Field,
+    pub target: Field,
+}
+
+// The edge whose first bit is `at`: one read, cut into three fields.
+pub fn read(p: Profile, file: &[u8], at: usize) -> Placed
+    requires { ⌜ Usable p × (at < 2 ^ 63) ⌝ }
+    ensures { λ r. ⌜ (r ≡ placedAt p (now (file .entry)) at) × Small (bare r) ⌝ }
 {
     let states = p.states;
     let labels = p.labels;
     let v = bits::get(file, at, states + labels + states) as usize;
+    Placed {
+        source: Field {
+            value: v >> (labels + states),
+            place: at,
+        },
+        label: Field {
+            value: (v >> states) % (1usize << labels),
+            place: at + states,
+        },
+        target: Field {
+            value: v % (1usize << states),
+            place: at + states + labels,
+        },
+    }
+}
+
+// The values of an edge's fields, without their places.
+pub fn bare(edge: Placed) -> Edge
+    ensures { λ r. ⌜ r ≡ bare edge ⌝ }
+{
+    let source = edge.source;
+    let label = edge.label;
+    let target = edge.target;
     Edge {
-        source: v >> (labels + states),
-        label: (v >> states) % (1usize << labels),
-        target: v % (1usize << states),
+        source: source.value,
+        label: label.value,
+        target: target.value,
     }
 }
 

@@ -19,6 +19,12 @@ pub struct Profile {
     pub colour: usize,
 }
 
+// A field and its place: in a file the position of its first bit, in a list the index of its edge.
+pub struct Field {
+    pub value: usize,
+    pub place: usize,
+}
+
 // The numbers of an accepted file: n, m, the start and e.
 pub struct Reading {
     pub states: usize,

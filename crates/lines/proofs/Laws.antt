@@ -54,10 +54,10 @@ pub pair-most : (j k a b : ℕ) → a < 10 ^ suc j → b < 10 ^ suc k → length
 unfolding pairLine
 pair-most j k a b ha hb = omega (arith, length-append (spaced a) (ended b), spaced-most j a ha, ended-most k b hb)
 
--- a number of two digits, a place of five
-pub refusal-most : (number place : ℕ) → number < 100 → place < 65536 → length (refusalLine number place) ≤ 17
+-- a number of two digits, a place of six
+pub refusal-most : (number place : ℕ) → number < 100 → place < 1000000 → length (refusalLine number place) ≤ 18
 unfolding refusalLine
-refusal-most number place hn hp = omega (arith, length-append refusedWord (pairLine number place), pair-most 1 4 number place hn (omega arith))
+refusal-most number place hn hp = omega (arith, length-append refusedWord (pairLine number place), pair-most 1 5 number place hn (omega arith))
 
 -- numbers of three digits
 pub four-most : (a b c d : ℕ) → a < 1000 → b < 1000 → c < 1000 → d < 1000 → length (fourLine a b c d) ≤ 16

@@ -8,7 +8,7 @@ use Prim.Native.Nat.{ℕ, _+_, _*_, _-_, _≤_, _<_}
 use native.Mathlib.Decide.{decLt}
 use native.Mathlib.Nat.{le-antisymm, lt-of-lt-of-le}
 use native.Mathlib.Omega.{arith}
-use lib.Dec.{eqb, ltb}
+use lib.Dec.{ltb}
 use lib.ListN.{length, getD, drop, replicate, List·getD-append, List·getD-eq-default}
 use lib.Pow.{pow-mono}
 use lib.Seq.{getD-drop, getD-append-add}
@@ -26,15 +26,18 @@ use Rattle.refusals.specs.Refusals.{accepted, refusalOutcome}
 use Rattle.layout.specs.declared.Profile.{Profile}
 use Rattle.layout.specs.declared.Reading.{Reading}
 use Rattle.layout.specs.Layout.{headerBits, edgeBits, edgesBegin}
-use Rattle.layout.specs.Contents.{statesIn, labelsIn, coloursIn, edgeAt, edgesFrom, filterIn}
-use Rattle.layout.specs.Code.{edgeOf, Usable}
+use Rattle.layout.specs.declared.edge.Edge as layout
+use Rattle.layout.specs.declared.edge.Placed.{Placed}
+use Rattle.layout.specs.Contents.{statesIn, labelsIn, coloursIn, values, placedAt, placedFrom, edgeAt, edgesFrom, filterIn}
+use Rattle.layout.specs.Code.{edgeOf, bare, Small, Usable}
 use Rattle.layout.proofs.Bounds.{states-high}
-use Rattle.layout.proofs.EdgeLists.{edges-around, edges-more}
+use Rattle.layout.proofs.EdgeLists.{edges-around, edges-more, bare-read}
 use Rattle.edges.specs.declared.Cursor.{Cursor}
-use Rattle.edges.specs.Faults.{edgeFault, faultAt, firstFault}
-use Rattle.edges.specs.Walk.{edgeBefore, faultNext, Next, Walked}
+use Rattle.edges.specs.declared.Verdict.{Verdict}
+use Rattle.edges.specs.Faults.{edgeFault, firstFault}
+use Rattle.edges.specs.Walk.{faultOf, Tested, behind, Walked}
 use Rattle.edges.proofs.Tests.{fault-free}
-use Rattle.edges.proofs.Walks.{begun, walk-begun, walk-next}
+use Rattle.edges.proofs.Walks.{begun, walk-begun, walk-clear, walk-next}
 use Rattle.files.specs.Files.{checkOf}
 use Rattle.files.specs.Tests.{HeadIs, edges-read, check-faultless}
 use Rattle.files.specs.Written.{length-filter, checked-in-order}
@@ -58,63 +61,71 @@ look-more T T′ es e rest put is order = put .edges ∙ fun-ext λ s. fun-ext �
     (λ q. rw q (ap (λ (f : ℕ → ℕ → Option ℕ). f s y) is ∙ sym (target-before es e s y q)))
 
 -- an edge without a fault leaves a state of the filter
-source-low : (n m i : ℕ) (before : Option Edge) (e : Edge) → faultAt i (edgeFault n m before e) none ≡ none → e .source < n
+source-low : (n m : ℕ) (before : Option Edge) (e : Placed) → edgeFault n m before e ≡ none → e .source .value < n
 unfolding firstFault each inside
-source-low n m i before e h =
-    let all = fault-free n m i before (e ∷ []) h .all-inside in
-    ltb-true (e .source) n (and-left (ltb (e .source) n) _ (and-left (inside n m e) _ all))
+source-low n m before e h =
+    let all = fault-free n m before (e ∷ []) (rw h) .all-inside in
+    ltb-true (e .source .value) n (and-left (ltb (e .source .value) n) _ (and-left (inside n m (values e)) _ all))
 
 -- a label of at most six bits
 label-low : (P : Profile) (s : List ℕ) (at : ℕ) → P .labels ≤ 6 → edgeAt P s at .label < 64
-unfolding edgeAt
+unfolding edgeAt placedAt
 label-low P s at h = lt-of-lt-of-le (field-lt s (at + P .states) (P .labels)) (pow-mono {j = 6} h)
 
 -- ---- the edges passed so far
 
 module _ (P : Profile) (file : List ℕ) (at e n m : ℕ) (T₀ : Table) where
-  abbrev all : List Edge
-  all = edgesFrom P file at e
+  abbrev all : List Placed
+  all = placedFrom P file at e
 
   -- A walk has come to a cursor, and if no edge has a fault the table has those before it.
   pub record Filling (T : Table) (c : Cursor) : Type 0 where
     pub walked : Walked P file at e n m c
-    pub filled : firstFault n m none 0 all ≡ none → look T ≡ target (edgesFrom P file at (c .index))
+    pub filled : firstFault n m none all ≡ none → look T ≡ target (edgesFrom P file at (c .index))
     pub rows : SameRows T₀ T
 
   pub filling-begun : T₀ .labels ≡ replicate (length (T₀ .labels)) 0 → Filling T₀ (begun P file at e n m)
-  unfolding edgesFrom
+  unfolding edgesFrom placedFrom
   filling-begun empty = record {
     walked = walk-begun P file at e n m;
     filled = λ clear. ap (λ (l : List ℕ). look (table (T₀ .targets) l)) empty ∙ look-empty (T₀ .targets) (length (T₀ .labels));
     rows = record { targets-same = refl; labels-same = refl };
   }
 
+  all-ascend : firstFault n m none all ≡ none → ascending (edgesFrom P file at e) ≡ true
+  unfolding edgesFrom
+  all-ascend clear = fault-free n m none all clear .ascend
+
   module _ (T : Table) (c : Cursor) (f : Filling T c) where
-    module _ (c′ : Cursor) (next : Next P file c c′) (clear : faultNext P file n m c ≡ none) where
-      -- the next edge can be put into the table
-      pub filling-room : P .labels ≤ 6 → Rows T₀ n → (c′ .before .label < 64) × Rows T (c′ .before .source + 1)
+    -- an edge was read and tested, and has no fault
+    module _ (edge : Placed) (read : edge ≡ placedAt P file (c .place)) (v : Verdict) (tested : Tested n m (c .rank) edge v) (more : c .index < e) (clear : faultOf v ≡ none)
+        (plain : layout.Edge) (is : plain ≡ bare edge) where
+      here : edgeOf plain ≡ edgeAt P file (c .place)
+      here = bare-read P file (c .place) edge plain read is
+
+      -- it can be put into the table
+      pub filling-room : P .labels ≤ 6 → Rows T₀ n → (plain .label < 64) × Rows T (plain .source + 1)
       filling-room narrow room =
-          let low = source-low n m (c .index) (edgeBefore (eqb (c .index) 0) (c .before)) (edgeAt P file (c .place)) clear in
-          let is : c′ .before .source ≡ edgeAt P file (c .place) .source = ap (λ (e : Edge). e .source) (next .edge) in (
-            rw (ap (λ (e : Edge). e .label) (next .edge)) (label-low P file (c .place) narrow),
+          let low = source-low n m (f .walked .before) edge (walk-clear P file at e n m c (f .walked) edge read v tested more clear) in
+          let source : plain .source ≡ edge .source .value = ap (λ (d : layout.Edge). d .source) is in (
+            rw (ap (λ (d : Edge). d .label) here) (label-low P file (c .place) narrow),
             record {
-              targets-long = omega (arith, low, is, room .targets-long, f .rows .targets-same);
-              labels-long = omega (arith, low, is, room .labels-long, f .rows .labels-same);
+              targets-long = omega (arith, low, source, room .targets-long, f .rows .targets-same);
+              labels-long = omega (arith, low, source, room .labels-long, f .rows .labels-same);
             },
           )
 
-      pub filling-next : c .index < e → (T′ : Table) → Put T T′ (c′ .before .source) (c′ .before .label) (c′ .before .target) → Filling T′ c′
-      filling-next more T′ put =
+      pub filling-next : Small (bare edge) → (T′ : Table) → Put T T′ (plain .source) (plain .label) (plain .target) → Filling T′ (behind P edge c)
+      filling-next small T′ put =
           let es = edgesFrom P file at (c .index) in
           let rest = edgesFrom P file (at + edgeBits P * c .index + edgeBits P) (e - (c .index + 1)) in
-          let is : edgeAt P file (at + edgeBits P * c .index) ≡ edgeOf (c′ .before) = ap (edgeAt P file) (sym (f .walked .placed)) ∙ sym (next .edge) in
-          let parts : all ≡ es ++ (edgeOf (c′ .before) ∷ rest) = edges-around P file at e (c .index) more ∙ ap (λ (x : Edge). es ++ (x ∷ rest)) is in
+          let now-is : edgeAt P file (at + edgeBits P * c .index) ≡ edgeOf plain = ap (edgeAt P file) (sym (f .walked .placed)) ∙ sym here in
+          let parts : edgesFrom P file at e ≡ es ++ (edgeOf plain ∷ rest) = edges-around P file at e (c .index) more ∙ ap (λ (x : Edge). es ++ (x ∷ rest)) now-is in
           record {
-            walked = walk-next P file at e n m c (f .walked) more c′ next clear;
+            walked = walk-next P file at e n m c (f .walked) edge read v tested more small clear;
             filled = λ none-faulty.
-                look-more T T′ es (edgeOf (c′ .before)) rest put (f .filled none-faulty) (ap ascending (sym parts) ∙ fault-free n m 0 none all none-faulty .ascend)
-                ∙ ap target (sym (edges-more P file at (c .index) ∙ ap (λ (x : Edge). es ++ (x ∷ [])) is))
-                ∙ ap (λ (k : ℕ). target (edgesFrom P file at k)) (sym (next .index));
+                look-more T T′ es (edgeOf plain) rest put (f .filled none-faulty) (ap ascending (sym parts) ∙ all-ascend none-faulty)
+                ∙ ap target (sym (edges-more P file at (c .index) ∙ ap (λ (x : Edge). es ++ (x ∷ [])) now-is));
             rows = record {
               targets-same = put .rows .targets-same ∙ f .rows .targets-same;
               labels-same = put .rows .labels-same ∙ f .rows .labels-same;
@@ -122,7 +133,7 @@ module _ (P : Profile) (file : List ℕ) (at e n m : ℕ) (T₀ : Table) where
           }
 
     -- all edges are passed
-    pub filling-done : e ≤ c .index → firstFault n m none 0 all ≡ none → look T ≡ target all
+    pub filling-done : e ≤ c .index → firstFault n m none all ≡ none → look T ≡ target (edgesFrom P file at e)
     filling-done done clear =
         f .filled clear ∙ ap (λ (k : ℕ). target (edgesFrom P file at k)) (le-antisymm (f .walked .inside) done)
 
@@ -139,8 +150,9 @@ loaded-refused P file r why T T′ is h rows = record {
 
 -- of an accepted file the table has the edges as they were read
 pub loaded-accepted : (P : Profile) (file : List ℕ) (r : Reading) (T T′ : Table) → HeadIs P file r →
-    let at = edgesBegin P (r .states) in let es = edgesFrom P file at (r .edges) in
-    firstFault (r .states) (r .labels) none 0 es ≡ none → look T′ ≡ target es → SameRows T T′ → Loaded P file (checked.Accepted r) T T′
+    let at = edgesBegin P (r .states) in
+    firstFault (r .states) (r .labels) none (placedFrom P file at (r .edges)) ≡ none → look T′ ≡ target (edgesFrom P file at (r .edges)) → SameRows T T′ →
+    Loaded P file (checked.Accepted r) T T′
 unfolding edge filterIn
 loaded-accepted P file r T T′ is clear has rows = record {
   answer = sym (check-faultless P file r is _ refl clear);

@@ -49,13 +49,13 @@ fn load_as(
     let e = r.edges;
     let mut cursor = Cursor::begin(layout::edges_begin(p, n));
     while cursor.index < e {
-        let next = cursor.next(p, file);
-        let edge = next.before;
-        let verdict = edges::test(n, m, cursor.index, cursor.rank, edge);
+        let placed = layout::edge::read(p, file, cursor.place);
+        let verdict = edges::test(n, m, cursor.rank, placed);
         match verdict {
             Verdict::Faultless => {
+                let edge = layout::edge::bare(placed);
                 table::put(targets, labels, edge.source, edge.label, edge.target as u8);
-                cursor = next;
+                cursor = cursor.behind(p, placed);
             }
             Verdict::Faulty(why) => return Checked::Refused(why),
         }

@@ -13,7 +13,7 @@ ghost use Rattle.pen.specs.Runs.{putFields};
 ghost use Rattle.refusals.specs.Refusals.{accepted, firstOf, roomTest, laid};
 ghost use Rattle.layout.specs.Layout.{large, edgeWidths, threes, fromLists, lengthOf, written};
 ghost use Rattle.layout.specs.Code.{Usable, Small, edgeOf, edgeIn};
-ghost use Rattle.edges.specs.Faults.{firstFault};
+ghost use Rattle.edges.specs.Faults.{listedFrom, firstFault};
 ghost use Rattle.edges.specs.Walk.{faultOf};
 ghost use Rattle.files.specs.Files.{allBelow, holdable};
 ghost use Rattle.packing.specs.Promise.{packedOutcome, packOf, PackPromise, Placeable};
@@ -167,14 +167,14 @@ fn edge_in(edges: &[u8], i: usize) -> Edge
 
 // The first fault of a list of edges, three bytes an edge.
 fn test_list(edges: &[u8], n: usize, m: usize) -> Verdict
-    ensures { λ r. ⌜ faultOf r ≡ firstFault n m none 0 (threes (now (edges .entry))) ⌝ }
+    ensures { λ r. ⌜ faultOf r ≡ firstFault n m none (listedFrom 0 (threes (now (edges .entry)))) ⌝ }
 {
     let e = edges.len() / 3;
     let mut last = 0;
     let mut i = 0;
     while i < e {
         let edge = edge_in(edges, i);
-        let verdict = edges::test(n, m, i, last, edge);
+        let verdict = edges::test(n, m, last, edges::listed(i, edge));
         let Verdict::Faultless = verdict else {
             return verdict;
         };

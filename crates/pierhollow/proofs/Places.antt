@@ -1,4 +1,4 @@
--- The refusals of unpack, pack and reduce: a number of at most two digits, and a place below 65,536. So what a C caller gets is the
+-- The refusals of unpack, pack and reduce: a number of at most two digits, and a place of at most six. So what a C caller gets is the
 -- place itself times 256 plus the number, as of check and trace. Only a drawing's place can be larger.
 -- Assumes nothing.
 use Prim.Native.Nat.{ℕ, _+_, _*_, _^_, _≤_}
@@ -13,10 +13,10 @@ use Rattle.meaning.specs.Cases.{and-left}
 use Rattle.meaning.specs.Filter.{states}
 use Rattle.layout.specs.Layout.{large, fromLists}
 use Rattle.refusals.specs.Refusals.{Outcome, refused, roomTest}
-use Rattle.edges.specs.Faults.{firstFault}
+use Rattle.edges.specs.Faults.{listedFrom, firstFault}
 use Rattle.files.specs.Files.{checkOf, holdable, writeTests, writeOf}
 use Rattle.files.specs.Tests.{held}
-use Rattle.files.specs.Places.{Small, small-accepted, small-first, small-onward, fault-small, small-edges, check-small}
+use Rattle.files.specs.Places.{Small, small-accepted, small-first, small-onward, listed-small, small-edges, check-small}
 use Rattle.unpacking.specs.Promise.{unpackTests, unpackOf}
 use Rattle.unpacking.specs.Promise as unpacking
 use Rattle.packing.specs.Promise.{packOf}
@@ -36,8 +36,8 @@ pack-small cs es m st room =
     let h = held large cs m (and-left (holdable large cs m) _ (not-false _ (p .0))) in
     let most : states F * m ≤ 256 * 64 = mul-le-mul (h .states-high) (h .labels-high) in
     let few = ltb-false (states F * m) (length (F .edges)) (p .1 .1 .0) in
-    small-edges (firstFault (states F) m none 0 (F .edges)) _
-    (λ f e. let r = fault-small (states F) m 0 none (F .edges) f e in (r .0, omega (arith, r .1, most, few)))
+    small-edges (firstFault (states F) m none (listedFrom 0 (F .edges))) _
+    (λ f e. let r = listed-small (states F) m 0 none (F .edges) f e in (r .0, omega (arith, r .1, most, few)))
     (small-first (roomTest _ room) _ refl (λ _. small-accepted _))
 
 pub reduce-small : (s : List ℕ) (room : folding.Rooms) → Small (reduceOf large s room)

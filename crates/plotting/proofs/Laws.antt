@@ -14,7 +14,7 @@ use Rattle.meaning.specs.Trace.{colour}
 use Rattle.layout.specs.declared.Profile.{Profile}
 use Rattle.layout.specs.Layout.{headerBits, edgeBits, edgesBegin}
 use Rattle.layout.specs.Code.{Usable}
-use Rattle.layout.specs.Contents.{statesIn, countIn, coloursIn, edgeAt, edgesFrom, edgesIn, filterIn}
+use Rattle.layout.specs.Contents.{statesIn, countIn, coloursIn, placedIn, edgeAt, edgesFrom, edgesIn, filterIn}
 use Rattle.layout.proofs.Bounds.{states-high, count-high}
 use Rattle.layout.proofs.EdgeLists.{edges-more, edges-around}
 use Rattle.drawing.specs.Profile.{opening, closing, stateLine, edgeLine, stateLines, edgeLines, drawn, larger, labelsOf}
@@ -139,7 +139,7 @@ module _ (P : Profile) (file : List ℕ) where
 
   -- the edges from where the code begins, as many as it reads
   pub edges-are : (n e begin : ℕ) → n ≡ statesIn P file → e ≡ countIn P file → begin ≡ edgesBegin P n → edgesFrom P file begin e ≡ edgesIn P file
-  unfolding edgesIn
+  unfolding edgesIn placedIn edgesFrom
   edges-are n e begin h l b = ap₂ (edgesFrom P file) (b ∙ ap (edgesBegin P) h) l
 
   pub extent-is : {long labels : ℕ} → long ≡ length (textOf P file) → labels ≡ labelsOf (edgesIn P file) →

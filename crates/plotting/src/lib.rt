@@ -52,7 +52,7 @@ fn edges_extent(p: Profile, file: &[u8], begin: usize, e: usize) -> Extent
     let mut at = begin;
     let mut i = 0;
     while i < e {
-        let edge = layout::edge::read(p, file, at);
+        let edge = layout::edge::bare(layout::edge::read(p, file, at));
         length += lettering::edge_length(edge);
         labels = drawing::larger(labels, edge.label + 1);
         at += layout::edge_bits(p);
@@ -104,7 +104,8 @@ fn put_edges(
     let mut bit = first;
     let mut i = 0;
     while i < e {
-        at = lettering::put_edge(room, at, layout::edge::read(p, file, bit));
+        let edge = layout::edge::bare(layout::edge::read(p, file, bit));
+        at = lettering::put_edge(room, at, edge);
         bit += layout::edge_bits(p);
         i += 1;
     }

@@ -5,7 +5,6 @@ use Prim.Native.Nat.{ℕ, suc, _+_, _*_, _-_, _≤_, _<_}
 use mathlib.Core.Path.{_≡_, refl}
 use mathlib.Core.Bool.{true, _&&_}
 use mathlib.Core.List.{List, [], _∷_, _++_}
-use mathlib.Core.Option.{none}
 use native.Mathlib.Nat.{zero-add, suc-mul, mul-le-mul-right}
 use native.Mathlib.Omega.{arith}
 use lib.Dec.{eqb, ltb}
@@ -18,9 +17,8 @@ use Rattle.refusals.specs.Refusals.{accepted}
 use Rattle.layout.specs.Layout.{large}
 use Rattle.layout.specs.Contents.{filterIn}
 use Rattle.layout.proofs.Bounds.{large-usable}
-use Rattle.edges.proofs.Tests.{fault-free}
 use Rattle.files.specs.Files.{checkOf, allBelow}
-use Rattle.files.specs.Tests.{check-sound, Writable}
+use Rattle.files.specs.Tests.{check-sound, Writable, writable-edges}
 use Rattle.files.specs.Written.{read-writable}
 use Rattle.text.specs.Decimal.{decimal}
 use Rattle.text.proofs.Laws.{decimal-most}
@@ -159,7 +157,7 @@ filter-most : (F : Filter) → Writable large F → length (drawn (F .colours) (
 unfolding drawn
 filter-most F w =
     let few : states F ≤ 256 = w .states-high in
-    let order = fault-free (states F) (F .labels) 0 none (F .edges) (w .clear) in
+    let order = writable-edges large F w in
     let first = states-most 0 (states F) (F .colours) (zero-add (states F)) (omega arith) (w .colours-below) in
     let second = edges-most (states F) (F .labels) (F .edges) (omega arith) (w .labels-high) (order .all-inside) (order .ascend) in
     omega (

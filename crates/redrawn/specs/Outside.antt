@@ -1,9 +1,9 @@
 -- 15 of from_dot: it is answered for the texts that are not of the profile, with the length of the longest beginning that some text
 -- of the profile also has (document 02, wish 1).
 -- Assumes nothing.
-use Prim.Native.Nat.{ℕ, suc, _<_}
+use Prim.Native.Nat.{ℕ, _<_}
 use mathlib.Core.Path.{_≡_, refl, ap, _∙_}
-use mathlib.Core.Bool.{Bool, true, false, _&&_}
+use mathlib.Core.Bool.{Bool, true, false}
 use mathlib.Core.List.{List, [], _∷_}
 use mathlib.Core.Option.{Option, none, some}
 use native.Mathlib.Omega.{arith}
@@ -11,52 +11,20 @@ use lib.Dec.{ltb}
 use borrow.Author.Tests.{ltb-true}
 use Rattle.meaning.specs.Pick.{pick}
 use Rattle.meaning.specs.Cases.{impossible, and-left, and-right}
-use Rattle.meaning.specs.Filter.{Edge, Filter, states, inside, comesBefore, samePlace}
+use Rattle.meaning.specs.Filter.{Filter, states}
 use Rattle.refusals.specs.Refusals.{Outcome, accepted, refused, Test, firstOf, roomTest}
+use Rattle.refusals.proofs.Laws.{numbersBelow}
 use Rattle.layout.specs.declared.Profile.{Profile}
 use Rattle.layout.specs.Layout.{lengthOf}
-use Rattle.edges.specs.Faults.{orderFault, edgeFault, Fault, faultAt, firstFault, edgesThen, placeInList}
+use Rattle.edges.specs.Faults.{listedFrom, Fault, firstFault, edgesThen}
 use Rattle.files.specs.Files.{writeTests, writeOf}
+use Rattle.files.specs.Places.{listed-small}
 use Rattle.drawing.specs.Profile.{InProfile, Longest, filterOf}
 use Rattle.drawing.specs.Reader.{Read, drawing, outside, readOf}
 use Rattle.drawing.specs.Exact.{read-profile, read-outside, longest-one}
 use Rattle.dot.specs.Promise.{fileOutcome, fromDotOf}
 
 -- ---- writing a filter never answers 15
-
--- the number of an edge's fault, where it has one, is below ten
-abbrev Digit : Option ℕ → Type 0
-Digit o = (k : ℕ) → o ≡ some k → k < 10
-
-digit-none : Digit none
-digit-none k e = impossible cc
-
-digit-some : (n : ℕ) → n < 10 → Digit (some n)
-digit-some n h k e = let z : n ≡ k = cc in omega arith
-
-digit-pick : (b : Bool) (o p : Option ℕ) → Digit o → Digit p → Digit (pick b o p)
-digit-pick true o p h k = h
-digit-pick false o p h k = k
-
-order-digit : (before : Option Edge) (e : Edge) → Digit (orderFault before e)
-order-digit none e = digit-none
-order-digit (some b) e =
-    digit-pick (comesBefore e b) (some 8) (pick (samePlace e b) (some 9) none) (digit-some 8 (omega arith))
-    (digit-pick (samePlace e b) (some 9) none (digit-some 9 (omega arith)) digit-none)
-
-edge-digit : (n m : ℕ) (before : Option Edge) (e : Edge) → Digit (edgeFault n m before e)
-unfolding edgeFault
-edge-digit n m before e = digit-pick (inside n m e) (orderFault before e) (some 7) (order-digit before e) (digit-some 7 (omega arith))
-
-fault-at : (i : ℕ) (o : Option ℕ) (next : Option Fault) (f : Fault) → Digit o → (next ≡ some f → f .number < 10) → faultAt i o next ≡ some f → f .number < 10
-fault-at i (some k) next f d h e = let z : k ≡ f .number = cc in omega (arith, d k refl)
-fault-at i none next f d h e = h e
-
-fault-digit : (n m i : ℕ) (before : Option Edge) (es : List Edge) (f : Fault) → firstFault n m before i es ≡ some f → f .number < 10
-unfolding firstFault
-fault-digit n m i before [] f e = impossible cc
-fault-digit n m i before (d ∷ es) f e =
-    fault-at i (edgeFault n m before d) (firstFault n m (some d) (suc i) es) f (edge-digit n m before d) (fault-digit n m (suc i) (some d) es f) e
 
 -- another answer than 15
 abbrev Other : Outcome → Type 0
@@ -72,26 +40,22 @@ other-test : (b : Bool) (k : ℕ) (next : Outcome) → k < 15 → Other next →
 other-test true k next h o = other-refused k 0 h
 other-test false k next h o = o
 
-other-edges : (fault : Option Fault) (next : Outcome) → ((f : Fault) → fault ≡ some f → f .number < 10) → Other next → Other (edgesThen placeInList fault next)
+other-edges : (fault : Option Fault) (next : Outcome) → ((f : Fault) → fault ≡ some f → f .number < 10) → Other next → Other (edgesThen fault next)
 other-edges none next h o = o
-other-edges (some f) next h o = other-refused (f .number) (placeInList (f .index)) (omega (arith, h f refl))
+other-edges (some f) next h o = other-refused (f .number) (f .place) (omega (arith, h f refl))
 
-abbrev lessNumbers : List Test → Bool
-lessNumbers [] = true
-lessNumbers (t ∷ ts) = ltb (t .number) 15 && lessNumbers ts
-
-other-first : (ts : List Test) (next : Outcome) → lessNumbers ts ≡ true → Other next → Other (firstOf ts next)
+other-first : (ts : List Test) (next : Outcome) → numbersBelow 15 ts ≡ true → Other next → Other (firstOf ts next)
 other-first [] next e o = o
 other-first (t ∷ ts) next e o =
-    other-test (t .given) (t .number) (firstOf ts next) (ltb-true (t .number) 15 (and-left (ltb (t .number) 15) (lessNumbers ts) e))
-    (other-first ts next (and-right (ltb (t .number) 15) (lessNumbers ts) e) o)
+    other-test (t .given) (t .number) (firstOf ts next) (ltb-true (t .number) 15 (and-left (ltb (t .number) 15) (numbersBelow 15 ts) e))
+    (other-first ts next (and-right (ltb (t .number) 15) (numbersBelow 15 ts) e) o)
 
 -- 14, 2, 3, the edges' 7, 8 and 9, and 10
 write-other : (P : Profile) (F : Filter) (room : ℕ) → Other (writeOf P F true room)
 unfolding writeOf writeTests
 write-other P F room =
     other-first (writeTests P F true) _ refl
-    (other-edges (firstFault (states F) (F .labels) none 0 (F .edges)) _ (fault-digit (states F) (F .labels) 0 none (F .edges))
+    (other-edges (firstFault (states F) (F .labels) none (listedFrom 0 (F .edges))) _ (λ f e. listed-small (states F) (F .labels) 0 none (F .edges) f e .0)
     (other-first (roomTest (lengthOf P F) room) (accepted (lengthOf P F ∷ [])) refl (other-accepted (lengthOf P F ∷ []))))
 
 -- ---- 15 and its place

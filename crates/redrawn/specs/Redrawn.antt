@@ -19,7 +19,7 @@ use Rattle.refusals.proofs.Laws.{first-accepted, onward-accepted}
 use Rattle.layout.specs.declared.Profile.{Profile}
 use Rattle.layout.specs.Code.{Usable}
 use Rattle.layout.specs.Layout.{headerBits, edgeBits, edgesBegin, lengthOf, written}
-use Rattle.layout.specs.Contents.{statesIn, labelsIn, startIn, countIn, coloursIn, edgeAt, edgesFrom, edgesIn, filterIn}
+use Rattle.layout.specs.Contents.{statesIn, labelsIn, startIn, countIn, coloursIn, placedAt, placedFrom, placedIn, edgesFrom, edgesIn, filterIn}
 use Rattle.layout.proofs.Bounds.{states-high}
 use Rattle.files.specs.Files.{checkOf, numbersIn, allBelow}
 use Rattle.files.specs.Tests.{Sound, check-sound, sound-check, write-written, writable-write}
@@ -37,7 +37,7 @@ byte-short s at w h = let p : 2 ^ w ≤ 256 = pow-mono {j = 8} h in omega (arith
 
 module _ (P : Profile) (usable : Usable P) where
   edges-short : (s : List ℕ) (at e : ℕ) → each shortEdge (edgesFrom P s at e) ≡ true
-  unfolding each edgesFrom edgeAt
+  unfolding each edgesFrom placedFrom placedAt
   edges-short s at zero = refl
   edges-short s at (suc e) =
       rw (
@@ -48,7 +48,7 @@ module _ (P : Profile) (usable : Usable P) where
       (edges-short s (at + edgeBits P) e)
 
   file-edges-short : (file : List ℕ) → each shortEdge (edgesIn P file) ≡ true
-  unfolding edgesIn
+  unfolding edgesIn placedIn edgesFrom
   file-edges-short file = edges-short file (edgesBegin P (statesIn P file)) (countIn P file)
 
   colour-short : (file : List ℕ) (i : ℕ) → i < length (coloursIn P file) → getD (coloursIn P file) i 0 < 1000

@@ -1,14 +1,16 @@
 -- Laws of refusals: a number tells its kind, tests in a row are taken apart, and a promise is kept in one way.
 -- Assumes nothing.
-use Prim.Native.Nat.{ℕ}
+use Prim.Native.Nat.{ℕ, _<_}
 use mathlib.Core.Path.{_≡_, refl, sym, ap, _∙_}
-use mathlib.Core.Bool.{Bool, true, false}
+use mathlib.Core.Bool.{Bool, true, false, _&&_}
 use mathlib.Core.List.{List, [], _∷_}
-use lib.Dec.{eqb}
+use native.Mathlib.Omega.{arith}
+use lib.Dec.{eqb, ltb}
 use lib.ListN.{length, take, drop}
 use lib.Seq.{take-at}
+use borrow.Author.Tests.{ltb-true}
 use Rattle.meaning.specs.Pick.{pick}
-use Rattle.meaning.specs.Cases.{impossible, cases-of}
+use Rattle.meaning.specs.Cases.{impossible, cases-of, and-left, and-right}
 use Rattle.refusals.specs.declared.Kind.{Kind}
 use Rattle.refusals.specs.declared.Kind.the-variants.{TooShort, Start, EdgeCount, Missing, Excess, Filling, Outside, Order, Repeated, AnswerRoom, ClassRoom, Room, Observation, Lists, Drawing}
 use Rattle.refusals.specs.declared.Refusal.{Refusal}
@@ -75,6 +77,23 @@ first-accepted (t ∷ ts) next vs h =
 pub first-passed : (ts : List Test) (next : Outcome) → Passed ts → firstOf ts next ≡ next
 first-passed [] next p = refl
 first-passed (t ∷ ts) next p = rw (p .0) (first-passed ts next (p .1))
+
+-- every test has a number below a limit
+abbrev pub numbersBelow : ℕ → List Test → Bool
+numbersBelow limit [] = true
+numbersBelow limit (t ∷ ts) = ltb (t .number) limit && numbersBelow limit ts
+
+refuse-behind : (b : Bool) (j k p : ℕ) (next : Outcome) → j < k → pick b (refused j 0) next ≡ refused k p → (b ≡ false) × (next ≡ refused k p)
+refuse-behind true j k p next l h = let z : j ≡ k = cc in absurd (omega arith)
+refuse-behind false j k p next l h = (refl, h)
+
+-- a refusal whose number is above theirs comes from behind them
+pub first-behind : (ts : List Test) (next : Outcome) (k p : ℕ) → numbersBelow k ts ≡ true → firstOf ts next ≡ refused k p → Passed ts × (next ≡ refused k p)
+first-behind [] next k p e h = (tt, h)
+first-behind (t ∷ ts) next k p e h =
+    let a = refuse-behind (t .given) (t .number) k p (firstOf ts next) (ltb-true (t .number) k (and-left (ltb (t .number) k) (numbersBelow k ts) e)) h in
+    let b = first-behind ts next k p (and-right (ltb (t .number) k) (numbersBelow k ts) e) (a .1) in
+    ((a .0, b .0), b .1)
 
 -- the first of the tests that is given is also the first of them before anything else that follows
 pub first-onward : (ts : List Test) (vs : List ℕ) (next : Outcome) → firstOf ts next ≡ onward (firstOf ts (accepted vs)) next

@@ -11,7 +11,7 @@ use Rattle.meaning.specs.Pick.{pick}
 use Rattle.meaning.specs.Filter as meaning
 use Rattle.layout.specs.declared.edge.Edge.{Edge}
 use Rattle.layout.specs.Code.{edgeOf}
-use Rattle.edges.specs.Faults.{Fault, firstFault}
+use Rattle.edges.specs.Faults.{listedFrom, Fault, firstFault}
 use Rattle.edges.specs.Walk.{faultOf, Ranked}
 use Rattle.drawing.specs.Profile.{larger, stateLines, labelsOf}
 use Rattle.drawing.specs.Reader.{Read, drawing, outside, readOf, noState}
@@ -45,7 +45,7 @@ smaller a b = pick (ltb a b) a b
 
 -- The first fault of a drawing's edges, among at most 256 states and labels. With more of them a text is 14, whatever its edges are.
 abbrev pub faultAmong : ℕ → List meaning.Edge → Option Fault
-faultAmong n edges = firstFault (smaller n 256) 256 none 0 edges
+faultAmong n edges = firstFault (smaller n 256) 256 none (listedFrom 0 edges)
 
 -- What is found of a text: its survey and the first fault of its edges; or the place at which it leaves the profile.
 pub data Found : Type 0 where

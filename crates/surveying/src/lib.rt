@@ -126,7 +126,7 @@ impl Testing {
             };
         }
         Testing {
-            verdict: edges::test(n, 256, i, self.last, edge),
+            verdict: edges::test(n, 256, self.last, edges::listed(i, edge)),
             last: edges::rank(edge),
         }
     }
@@ -146,7 +146,7 @@ fn bytes(edge: Edge) -> bool
 }
 
 fn outside(i: usize) -> Verdict
-    ensures { λ r. ⌜ faultOf r ≡ some (record { number = 7; index = i }) ⌝ }
+    ensures { λ r. ⌜ faultOf r ≡ some (record { number = 7; place = i }) ⌝ }
 {
     Verdict::Faulty(Refusal {
         kind: Kind::Outside,

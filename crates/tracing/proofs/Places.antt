@@ -1,4 +1,4 @@
--- A refused ride's number has at most two digits, and its place is below 65,536. Assumes nothing.
+-- A refused ride's number has at most two digits, and its place at most six. Assumes nothing.
 use Prim.Native.Nat.{ℕ, suc, _<_}
 use mathlib.Core.Path.{_≡_, refl}
 use mathlib.Core.Bool.{Bool, true, false}
@@ -31,7 +31,7 @@ outside-within m [] i e = impossible cc
 outside-within m (y ∷ ys) i e =
     outside-here (leb m y) (later (firstOutside m ys)) i (length ys) (later-within (firstOutside m ys) (length ys) i (outside-within m ys)) e
 
-small-labels : (o : Option ℕ) (next : Outcome) → ((i : ℕ) → o ≡ some i → i < 65536) → Small next → Small (labelsThen o next)
+small-labels : (o : Option ℕ) (next : Outcome) → ((i : ℕ) → o ≡ some i → i < 1000000) → Small next → Small (labelsThen o next)
 small-labels none next h k = k
 small-labels (some i) next h k = small-at 13 i (omega arith) (h i refl)
 

@@ -19,7 +19,7 @@ use Rattle.refusals.proofs.Laws.{first-accepted, promise-refused, promise-accep
 use Rattle.layout.specs.declared.Profile.{Profile}
 use Rattle.layout.specs.declared.Reading.{Reading}
 use Rattle.layout.specs.Layout.{headerBits, edgesBegin, flat}
-use Rattle.layout.specs.Contents.{statesIn, countIn, coloursIn, edgesFrom, edgesIn}
+use Rattle.layout.specs.Contents.{statesIn, countIn, coloursIn, placedIn, edgesFrom, edgesIn}
 use Rattle.layout.proofs.EdgeLists.{length-flat}
 use Rattle.files.specs.Files.{numbersIn, checkOf}
 use Rattle.files.specs.Tests.{check-sound, ReadIs}
@@ -77,5 +77,5 @@ colours-laid P s room at n h e = sym (rw (length-colours P s, ← h, ← e))
 
 pub edges-laid : (P : Profile) (s room : List ℕ) (at n e : ℕ) → at ≡ edgesBegin P n → n ≡ statesIn P s → e ≡ countIn P s →
     flat (edgesFrom P s at e) ++ drop (3 * e) room ≡ laid (flat (edgesIn P s)) room
-unfolding edgesIn
+unfolding edgesIn placedIn edgesFrom
 edges-laid P s room at n e h k l = rw (length-flat (edgesIn P s), length-edges-in P s, h, k, l)

@@ -64,11 +64,12 @@ fn get_edges(p: Profile, file: &[u8], at: usize, e: usize, out: &mut [u8])
     let mut cursor = Cursor::begin(at);
     let mut o = 0;
     while cursor.index < e {
-        cursor = cursor.next(p, file);
-        let edge = cursor.before;
+        let placed = layout::edge::read(p, file, cursor.place);
+        let edge = layout::edge::bare(placed);
         out[o] = edge.source as u8;
         out[o + 1] = edge.label as u8;
         out[o + 2] = edge.target as u8;
         o += 3;
+        cursor = cursor.behind(p, placed);
     }
 }

@@ -48,6 +48,16 @@ impl Damage {
         [self.earliest(), e / 2, e - 1]
     }
 
+    /// The bit that a refusal names for this damage of edge `at` of a file, where no other is told before it.
+    pub fn bit(self, filter: &Filter, at: usize) -> u64 {
+        let within = match self {
+            Damage::Label => 8,
+            Damage::Target => 14,
+            _ => 0,
+        };
+        37 + 6 * filter.n() + 22 * at as u64 + within
+    }
+
     /// Makes edge `at` faulty and leaves those before it in order. `top_label` is the most that a label's field holds.
     pub fn apply(self, filter: &mut Filter, at: usize, top_label: u64, random: &mut Random) {
         let n = filter.n();
@@ -93,24 +103,48 @@ pub fn one_faulty_edge(top_label: u64, random: &mut Random) -> Vec<Filter> {
     filters
 }
 
-/// 7 together with 8 or 9, in the earliest, a middle and the last edge that can have both.
-pub fn doubly_faulty_edge(top_label: u64, random: &mut Random) -> Vec<Filter> {
-    let mut filters = Vec::new();
-    for damage in [Damage::Before, Damage::EqualSameTarget] {
+/// Faults that one edge can have at once, in the order in which they are told: every pair and all three of 7's, and each
+/// of them where there is 8 or 9 too.
+pub const TOGETHER: &[&[Damage]] = &[
+    &[Damage::Source, Damage::Label],
+    &[Damage::Source, Damage::Target],
+    &[Damage::Label, Damage::Target],
+    &[Damage::Source, Damage::Label, Damage::Target],
+    &[Damage::Source, Damage::Before],
+    &[Damage::Label, Damage::Before],
+    &[Damage::Target, Damage::Before],
+    &[Damage::Source, Damage::EqualSameTarget],
+    &[Damage::Label, Damage::EqualSameTarget],
+    &[Damage::Target, Damage::EqualSameTarget],
+];
+
+/// A filter that is to be refused, and the edge that is to be named.
+pub struct Damaged {
+    pub filter: Filter,
+    pub edge: usize,
+}
+
+/// Each of `TOGETHER` in the earliest, a middle and the last edge that can have it.
+pub fn several_faults_in_an_edge(top_label: u64, random: &mut Random) -> Vec<Damaged> {
+    let mut all = Vec::new();
+    for damages in TOGETHER {
+        // The order's damage moves whole edges, so it is done first; and it is the one that the first edge cannot have.
+        let last = damages[damages.len() - 1];
         for nth in 0..3 {
             let mut filter = damageable(random);
-            let at = damage.places(&filter)[nth];
-            damage.apply(&mut filter, at, top_label, random);
-            Damage::Target.apply(&mut filter, at, top_label, random);
-            filters.push(filter);
+            let edge = last.places(&filter)[nth];
+            for damage in damages.iter().rev() {
+                damage.apply(&mut filter, edge, top_label, random);
+            }
+            all.push(Damaged { filter, edge });
         }
     }
-    filters
+    all
 }
 
 /// Each damage in an edge and each in a later one.
-pub fn two_faulty_edges(top_label: u64, random: &mut Random) -> Vec<Filter> {
-    let mut filters = Vec::new();
+pub fn two_faulty_edges(top_label: u64, random: &mut Random) -> Vec<Damaged> {
+    let mut all = Vec::new();
     for earlier in Damage::ALL {
         for later in Damage::ALL {
             let mut filter = damageable(random);
@@ -120,10 +154,11 @@ pub fn two_faulty_edges(top_label: u64, random: &mut Random) -> Vec<Filter> {
             let behind = random.between(at + 2, last);
             later.apply(&mut filter, behind as usize, top_label, random);
             earlier.apply(&mut filter, at as usize, top_label, random);
-            filters.push(filter);
+            let edge = at as usize;
+            all.push(Damaged { filter, edge });
         }
     }
-    filters
+    all
 }
 
 /// The least number that is not allowed, the greatest that the field holds, or one between them.

@@ -135,7 +135,7 @@ pub fn of_all_files(random: &mut Random) -> Vec<Case> {
         files::fillings,
         files::two_faults,
         files::faulty_edge,
-        files::two_faults_in_an_edge,
+        files::faults_in_one_edge,
         files::faulty_edges,
         files::noise,
         files::noise_behind_header,

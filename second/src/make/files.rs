@@ -2,7 +2,9 @@
 
 use crate::bits::{bytes_of, push};
 use crate::file::{length, write};
-use crate::make::damage::{doubly_faulty_edge, one_faulty_edge, two_faulty_edges, Damage};
+use crate::make::damage::{
+    one_faulty_edge, several_faults_in_an_edge, two_faulty_edges, Damage, Damaged,
+};
 use crate::make::draft::Draft;
 use crate::make::filters::{damageable, filter, large, largest, shapes, small};
 use crate::make::Family;
@@ -45,9 +47,9 @@ pub const FAMILIES: &[Family<Vec<u8>>] = &[
         make: faulty_edge,
     },
     Family {
-        name: "two faults in one edge",
-        times: 20,
-        make: two_faults_in_an_edge,
+        name: "several faults in one edge",
+        times: 8,
+        make: faults_in_one_edge,
     },
     Family {
         name: "two faulty edges",
@@ -189,12 +191,16 @@ pub fn faulty_edge(random: &mut Random) -> Vec<Vec<u8>> {
     one_faulty_edge(63, random).iter().map(write).collect()
 }
 
-pub fn two_faults_in_an_edge(random: &mut Random) -> Vec<Vec<u8>> {
-    doubly_faulty_edge(63, random).iter().map(write).collect()
+pub fn faults_in_one_edge(random: &mut Random) -> Vec<Vec<u8>> {
+    written(&several_faults_in_an_edge(63, random))
 }
 
 pub fn faulty_edges(random: &mut Random) -> Vec<Vec<u8>> {
-    two_faulty_edges(63, random).iter().map(write).collect()
+    written(&two_faulty_edges(63, random))
+}
+
+fn written(all: &[Damaged]) -> Vec<Vec<u8>> {
+    all.iter().map(|damaged| write(&damaged.filter)).collect()
 }
 
 /// Every length up to 64, and some longer.

@@ -4,7 +4,7 @@ use crate::case::Case;
 use crate::file::{length, Filter};
 use crate::frame::LONGEST;
 use crate::make::damage::{
-    damage_one, doubly_faulty_edge, one_faulty_edge, two_faulty_edges, Damage,
+    damage_one, one_faulty_edge, several_faults_in_an_edge, two_faulty_edges, Damage, Damaged,
 };
 use crate::make::filters::{damageable, filter, large, largest, shapes, small};
 use crate::make::rooms::{any, Room};
@@ -38,9 +38,9 @@ pub const FAMILIES: &[Family<Case>] = &[
         make: faulty_edge,
     },
     Family {
-        name: "lists with two faults in one edge",
-        times: 10,
-        make: two_faults_in_an_edge,
+        name: "lists with several faults in one edge",
+        times: 4,
+        make: faults_in_one_edge,
     },
     Family {
         name: "lists with two faulty edges",
@@ -225,13 +225,16 @@ pub fn faulty_edge(random: &mut Random) -> Vec<Case> {
     in_any_rooms(&filters, random)
 }
 
-pub fn two_faults_in_an_edge(random: &mut Random) -> Vec<Case> {
-    let filters = doubly_faulty_edge(255, random);
-    in_any_rooms(&filters, random)
+pub fn faults_in_one_edge(random: &mut Random) -> Vec<Case> {
+    damaged_in_any_rooms(several_faults_in_an_edge(255, random), random)
 }
 
 pub fn faulty_edges(random: &mut Random) -> Vec<Case> {
-    let filters = two_faulty_edges(255, random);
+    damaged_in_any_rooms(two_faulty_edges(255, random), random)
+}
+
+fn damaged_in_any_rooms(all: Vec<Damaged>, random: &mut Random) -> Vec<Case> {
+    let filters: Vec<Filter> = all.into_iter().map(|damaged| damaged.filter).collect();
     in_any_rooms(&filters, random)
 }
 

@@ -1,15 +1,14 @@
 -- `checking::check_as` meets its contract: a refusal before the edges is the answer, and otherwise the first fault of the edges
 -- decides. The invariant: no edge before the cursor has a fault. Assumes nothing.
-use mathlib.Core.Path.{_≡_, refl, ap, sym, _∙_}
-use mathlib.Core.List.{List}
-use Prim.Native.Nat.{ℕ, _-_, _≤_, _<_}
+use mathlib.Core.Path.{refl, ap, sym, _∙_}
+use Prim.Native.Nat.{_-_, _^_, _≤_, _<_}
 use native.Mathlib.Omega.{arith}
 use borrow.Author.Needs.{needs}
 use denote.Ref.{now}
 use Rattle.layout.specs.Layout.{edgesBegin}
 use Rattle.layout.proofs.Bounds.{states-high, count-high, begin-high}
-use Rattle.edges.specs.Walk.{faultOf, faultNext, Walked}
-use Rattle.edges.proofs.Walks.{fault-tested, walk-begun, walk-near, walk-next, walk-faulty, walk-done}
+use Rattle.edges.specs.Walk.{faultOf, Walked}
+use Rattle.edges.proofs.Walks.{walk-begun, walk-near, walk-next, walk-faulty, walk-done}
 use Rattle.files.specs.Tests.{HeadIs, head-is, head-refused, check-faultless, check-faulty}
 use Rattle.checking.specs.Promise.{checkedOutcome}
 use Rattle.checking.proofs.check_as.Statement.{statement}
@@ -33,15 +32,6 @@ few-states c =
     let start = c .before .before .before .before in
     omega (arith, is-headed c .states-are, states-high (start .args .p) (start .pre .0) (now (start .args .file)))
 
--- a fault of the edge that the cursor stands before is what the test found
-abbrev told : tie.After-test Inv-loop μ-loop → tie.After-known-told Inv-loop μ-loop
-told c = c .before .before .before .before .before .before .before .before
-
-found : (c : tie.After-test Inv-loop μ-loop) →
-    faultNext (told c .before .before .before .before .args .p) (now (told c .before .before .before .before .args .file)) (told c .before .answer .given .0 .0 .states)
-    (told c .before .answer .given .0 .0 .labels) (c .before .before .before .before .before .loop .cursor) ≡ faultOf (c .test .result)
-found c = fault-tested _ _ _ _ _ _ _ (c .before .before .before .before .before .loop .inv) _ (c .before .before .next .ensures) (c .test .result) (c .test .ensures)
-
 -- ---- the needs
 
 returns : tie.Need-returns Inv-loop μ-loop
@@ -56,31 +46,51 @@ edges-begin-requires c κs = (c .before .before .before .before .pre .0, few-sta
 loop-holds : tie.Need-loop-holds Inv-loop μ-loop
 loop-holds c = rw (c .begin .ensures, c .before .edges-begin .ensures .0) (walk-begun _ _ _ _ _ _)
 
-next-requires : tie.Need-next-requires Inv-loop μ-loop
-next-requires c κs =
-    let loop = c .before .before .loop in
-    let told = c .before .before .before .before .before in
+-- the cursor's numbers are small
+near : (c : tie.At-loop Inv-loop μ-loop) → (c .loop .cursor .place < 2 ^ 63) × (c .loop .cursor .index < 2 ^ 63)
+near c =
+    let told = c .before .before .before in
     let start = told .before .before .before .before in
     let ok = start .pre .0 in
-    let near = walk-near _ _ _ _ _ _ _ (loop .inv) ok (begin-high _ ok _ (few-states told)) (omega (arith, is-headed told .count-is, count-high _ ok (now (start .args .file)))) in
-    (ok, near .0, near .1)
+    walk-near _ _ _ _ _ _ _ (c .loop .inv) ok (begin-high _ ok _ (few-states told)) (omega (arith, is-headed told .count-is, count-high _ ok (now (start .args .file))))
+
+read-requires : tie.Need-read-requires Inv-loop μ-loop
+read-requires c κs =
+    let loop = c .before .before in
+    (loop .before .before .before .before .before .before .before .pre .0, near loop .0)
 
 test-requires : tie.Need-test-requires Inv-loop μ-loop
-test-requires c κs = c .before .next .ensures .small
+test-requires c κs = c .read .ensures .1
+
+behind-requires : tie.Need-behind-requires Inv-loop μ-loop
+behind-requires c κs =
+    let read = c .before .before .before in
+    let loop = read .before .before .before in
+    record {
+      usable = loop .before .before .before .before .before .before .before .pre .0;
+      small = read .read .ensures .1;
+      place = near loop .0;
+      index = near loop .1;
+    }
 
 loop-less : tie.Need-loop-less Inv-loop μ-loop
-loop-less c = let tested = c .before .before in omega (arith, tested .before .before .next .ensures .index, tested .before .before .before .if1 .taken)
+loop-less c = rw (c .behind .ensures) (omega (arith, c .before .before .before .before .before .if1 .taken))
 
 loop-again : tie.Need-loop-again Inv-loop μ-loop
 loop-again c =
-    let tested = c .before .before in
-    walk-next _ _ _ _ _ _ _ (tested .before .before .before .before .before .loop .inv) (tested .before .before .before .if1 .taken) _ (tested .before .before .next .ensures) (found tested ∙ ap faultOf (c .enum-told2 .given .1))
+    let tested = c .before .before .before in
+    let read = tested .before in
+    rw (c .behind .ensures)
+    (walk-next _ _ _ _ _ _ _ (read .before .before .before .loop .inv) _ (read .read .ensures .0) (tested .test .result) (tested .test .ensures) (read .before .if1 .taken) (read .read .ensures .1)
+    (ap faultOf (c .before .enum-told2 .given .1)))
 
 returns-2 : tie.Need-returns-2 Inv-loop μ-loop
 returns-2 c =
     let tested = c .before .before .before in
-    sym (check-faulty _ _ _ (is-headed (tested .before .before .before .before .before .before .before .before)) _ refl (c .before .verdict .given .0 .0)
-    (walk-faulty _ _ _ _ _ _ _ (tested .before .before .before .before .before .loop .inv) (tested .before .before .before .if1 .taken) _ (found tested ∙ ap faultOf (c .before .verdict .given .1))))
+    let read = tested .before in
+    let loop = read .before .before .before in
+    sym (check-faulty _ _ _ (is-headed (loop .before .before .before)) _ refl (c .before .verdict .given .0 .0)
+    (walk-faulty _ _ _ _ _ _ _ (loop .loop .inv) _ (read .read .ensures .0) (tested .test .result) (tested .test .ensures) (read .before .if1 .taken) _ (ap faultOf (c .before .verdict .given .1))))
 
 returns-3 : tie.Need-returns-3 Inv-loop μ-loop
 returns-3 c =
@@ -100,9 +110,10 @@ check-as-spec =
     edges-begin-requires
     (λ c κs. search needs)
     loop-holds
-    next-requires
+    read-requires
     test-requires
     (λ c. search needs)
+    behind-requires
     loop-less
     loop-again
     (λ c. search needs)

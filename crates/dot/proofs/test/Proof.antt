@@ -12,7 +12,7 @@ use denote.Ref.{now}
 use Rattle.layout.specs.Layout.{bytesFor, fileLength}
 use Rattle.layout.proofs.Bounds.{states-pow, labels-pow}
 use Rattle.refusals.specs.Refusals.{accepted, firstOf, roomTest}
-use Rattle.edges.specs.Faults.{firstFault}
+use Rattle.edges.specs.Faults.{listedFrom, firstFault}
 use Rattle.edges.specs.Walk.{faultOf}
 use Rattle.files.specs.Files.{holdable}
 use Rattle.files.specs.Tests.{Held, held}
@@ -61,7 +61,7 @@ returns-2 c =
 
 -- the verdict on a filter that a file can hold
 fault : (c : tie.Else2) → let a = start (c .before .before) .args in
-    faultOf (a .verdict) ≡ firstFault (a .s .states) (a .s .labels) none 0 (edgesOf (readOf (now (a .text))))
+    faultOf (a .verdict) ≡ firstFault (a .s .states) (a .s .labels) none (listedFrom 0 (edgesOf (readOf (now (a .text)))))
 fault c =
     let else1 = c .before .before in
     let pre = start else1 .pre in

@@ -1,14 +1,14 @@
 -- `loading::load_as` meets its contract: a refusal before the edges is the answer, and otherwise the first fault of the edges
 -- decides. The invariant: no edge before the cursor has a fault, and the table has these edges. Assumes nothing.
-use mathlib.Core.Path.{_≡_, refl, ap, sym, _∙_}
-use Prim.Native.Nat.{_-_, _≤_}
+use mathlib.Core.Path.{refl, ap, sym, _∙_}
+use Prim.Native.Nat.{_-_, _^_, _≤_, _<_}
 use native.Mathlib.Omega.{arith}
 use borrow.Author.Needs.{needs}
 use denote.Ref.{now}
 use Rattle.layout.specs.Layout.{edgesBegin}
 use Rattle.layout.proofs.Bounds.{states-high, count-high, begin-high}
-use Rattle.edges.specs.Walk.{faultOf, faultNext}
-use Rattle.edges.proofs.Walks.{fault-tested, walk-near, walk-faulty, walk-done}
+use Rattle.edges.specs.Walk.{faultOf}
+use Rattle.edges.proofs.Walks.{walk-near, walk-faulty, walk-done}
 use Rattle.files.specs.Tests.{HeadIs, head-is, head-refused, check-faulty}
 use Rattle.checking.specs.Promise.{checkedOutcome}
 use Rattle.table.specs.Table.{table}
@@ -39,13 +39,6 @@ is-headed c = head-is _ _ _ (sym (started c .pre .0) ∙ ap checkedOutcome (c .b
 few-states : (c : tie.After-known-told Inv-loop μ-loop) → c .before .answer .given .0 .0 .states ≤ 256
 few-states c = omega (arith, is-headed c .states-are, states-high _ (started c .pre .1 .usable) (now (started c .args .file)))
 
--- a fault of the edge that the cursor stands before is what the test found
-found : (c : tie.After-test Inv-loop μ-loop) →
-    let begun = told (c .before .before .before .before .before) in
-    faultNext (started begun .args .p) (now (started begun .args .file)) (begun .before .answer .given .0 .0 .states) (begun .before .answer .given .0 .0 .labels) (c .before .before .before .before .before .loop .cursor)
-    ≡ faultOf (c .test .result)
-found c = fault-tested _ _ _ _ _ _ _ (c .before .before .before .before .before .loop .inv .walked) _ (c .before .before .next .ensures) (c .test .result) (c .test .ensures)
-
 -- ---- the needs
 
 returns : tie.Need-returns Inv-loop μ-loop
@@ -62,48 +55,66 @@ edges-begin-requires c κs = (started c .pre .1 .usable, few-states c)
 loop-holds : tie.Need-loop-holds Inv-loop μ-loop
 loop-holds c = rw (c .begin .ensures, c .before .edges-begin .ensures .0) (filling-begun _ _ _ _ _ _ _ (started (c .before .before) .pre .1 .empty))
 
-next-requires : tie.Need-next-requires Inv-loop μ-loop
-next-requires c κs =
-    let loop = c .before .before .loop in
-    let begun = told (c .before .before) in
+-- the cursor's numbers are small
+near : (c : tie.At-loop Inv-loop μ-loop) → (c .loop .cursor .place < 2 ^ 63) × (c .loop .cursor .index < 2 ^ 63)
+near c =
+    let begun = told c in
     let start = started begun in
     let ok = start .pre .1 .usable in
-    let near = walk-near _ _ _ _ _ _ _ (loop .inv .walked) ok (begin-high _ ok _ (few-states begun)) (omega (arith, is-headed begun .count-is, count-high _ ok (now (start .args .file)))) in
-    (ok, near .0, near .1)
+    walk-near _ _ _ _ _ _ _ (c .loop .inv .walked) ok (begin-high _ ok _ (few-states begun)) (omega (arith, is-headed begun .count-is, count-high _ ok (now (start .args .file))))
+
+read-requires : tie.Need-read-requires Inv-loop μ-loop
+read-requires c κs = let loop = c .before .before in (started (told loop) .pre .1 .usable, near loop .0)
 
 test-requires : tie.Need-test-requires Inv-loop μ-loop
-test-requires c κs = c .before .next .ensures .small
+test-requires c κs = c .read .ensures .1
 
 cast-put : tie.Need-cast-put Inv-loop μ-loop
-cast-put c = let small = c .before .before .before .before .before .before .before .next .ensures .small in omega arith
+cast-put c =
+    let plain = c .before .before .before in
+    rw (plain .bare .ensures) (omega (arith, plain .before .before .before .before .read .ensures .1 .target))
 
 put-requires : tie.Need-put-requires Inv-loop μ-loop
 put-requires c κs =
-    let tested = c .before .before .before .before .before in
-    let loop = tested .before .before .before .before .before in
+    let plain = c .before .before .before in
+    let told-none = plain .before in
+    let tested = told-none .before .before in
+    let read = tested .before in
+    let loop = read .before .before .before in
     let start = started (told loop) in
     let rows = start .pre .1 .rows in
-    filling-room _ _ _ _ _ _ _ _ _ (loop .loop .inv) _ (tested .before .before .next .ensures) (found tested ∙ ap faultOf (c .before .before .before .enum-told2 .given .1)) (start .pre .1 .labels≤6)
-    (rw (← is-headed (told loop) .states-are) at rows)
+    filling-room _ _ _ _ _ _ _ _ _ (loop .loop .inv) _ (read .read .ensures .0) (tested .test .result) (tested .test .ensures) (read .before .if1 .taken) (ap faultOf (told-none .enum-told2 .given .1))
+    (plain .bare .result) (plain .bare .ensures) (start .pre .1 .labels≤6) (rw (← is-headed (told loop) .states-are) at rows)
+
+behind-requires : tie.Need-behind-requires Inv-loop μ-loop
+behind-requires c κs =
+    let read = c .before .before .before .before .before .before .before .before .before .before .before .before in
+    let loop = read .before .before .before in
+    record { usable = started (told loop) .pre .1 .usable; small = read .read .ensures .1; place = near loop .0; index = near loop .1 }
 
 loop-less : tie.Need-loop-less Inv-loop μ-loop
-loop-less c = let tested = c .before .before .before .before .before .before .before .before .before .before in omega (arith, tested .before .before .next .ensures .index, tested .before .before .before .if1 .taken)
+loop-less c = rw (c .behind .ensures) (omega (arith, c .before .before .before .before .before .before .before .before .before .before .before .before .before .before .if1 .taken))
 
 loop-again : tie.Need-loop-again Inv-loop μ-loop
 loop-again c =
-    let put = c .before .before .before .before in
-    let tested = put .before .before .before .before .before .before in
-    filling-next _ _ _ _ _ _ _ _ _ (tested .before .before .before .before .before .loop .inv) _ (tested .before .before .next .ensures) (found tested ∙ ap faultOf (put .before .before .before .before .enum-told2 .given .1)) (tested .before .before .before .if1 .taken) _
-    (put .put .ensures)
+    let put = c .before .before .before .before .before in
+    let plain = put .before .before .before .before in
+    let told-none = plain .before in
+    let tested = told-none .before .before in
+    let read = tested .before in
+    rw (c .behind .ensures)
+    (filling-next _ _ _ _ _ _ _ _ _ (read .before .before .before .loop .inv) _ (read .read .ensures .0) (tested .test .result) (tested .test .ensures) (read .before .if1 .taken)
+    (ap faultOf (told-none .enum-told2 .given .1)) (plain .bare .result) (plain .bare .ensures) (read .read .ensures .1) _ (put .put .ensures))
 
 returns-2 : tie.Need-returns-2 Inv-loop μ-loop
 returns-2 c =
     let tested = c .before .before .before in
-    let loop = tested .before .before .before .before .before in
+    let read = tested .before in
+    let loop = read .before .before .before in
     let why = c .before .verdict .given .0 .0 in
     loaded-refused _ _ _ why _ _ refl
     (check-faulty _ _ _ (is-headed (told loop)) _ refl why
-    (walk-faulty _ _ _ _ _ _ _ (loop .loop .inv .walked) (tested .before .before .before .if1 .taken) _ (found tested ∙ ap faultOf (c .before .verdict .given .1))))
+    (walk-faulty _ _ _ _ _ _ _ (loop .loop .inv .walked) _ (read .read .ensures .0) (tested .test .result) (tested .test .ensures) (read .before .if1 .taken) _ (ap faultOf (c .before .verdict .given .1))))
     (loop .loop .inv .rows)
 
 returns-3 : tie.Need-returns-3 Inv-loop μ-loop
@@ -124,11 +135,13 @@ load-as-spec =
     edges-begin-requires
     (λ c κs. search needs)
     loop-holds
-    next-requires
+    read-requires
     test-requires
     (λ c. search needs)
+    (λ c κs. search needs)
     cast-put
     put-requires
+    behind-requires
     loop-less
     loop-again
     (λ c. search needs)

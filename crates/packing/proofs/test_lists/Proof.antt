@@ -14,7 +14,7 @@ use lib.ListN.{length}
 use Rattle.meaning.specs.Filter.{Filter}
 use Rattle.layout.specs.Layout.{bytesFor, fileBits, fileLength, lengthOf, threes, fromLists}
 use Rattle.refusals.specs.Refusals.{accepted, firstOf, roomTest}
-use Rattle.edges.specs.Faults.{firstFault, edgesThen, placeInList}
+use Rattle.edges.specs.Faults.{listedFrom, firstFault, edgesThen}
 use Rattle.files.specs.Files.{holdable, writeTests, writeOf}
 use Rattle.packing.specs.Promise.{packOf}
 use Rattle.edges.specs.Walk.{faultOf}
@@ -70,12 +70,12 @@ few c = rw (count (c .before .before)) (le-ltb _ _ (c .if4 .left))
 -- past the first three numbers: what the edges and the room decide
 tested : (c : tie.Else4) →
     packOf (start₃ (c .before) .args .p) (colours (start₃ (c .before))) (edges (start₃ (c .before))) (start₃ (c .before) .args .m) (start₃ (c .before) .args .start) (start₃ (c .before) .args .room)
-    ≡ edgesThen placeInList (firstFault (length (colours (start₃ (c .before)))) (start₃ (c .before) .args .m) none 0 (threes (edges (start₃ (c .before)))))
+    ≡ edgesThen (firstFault (length (colours (start₃ (c .before)))) (start₃ (c .before) .args .m) none (listedFrom 0 (threes (edges (start₃ (c .before))))))
     (firstOf (roomTest (lengthOf (start₃ (c .before) .args .p) (F (start₃ (c .before)))) (start₃ (c .before) .args .room)) (accepted (lengthOf (start₃ (c .before) .args .p) (F (start₃ (c .before))) ∷ [])))
 unfolding packOf writeOf writeTests
 tested c = let e2 = c .before .before in rw (holds (e2 .before), whole e2, starts (c .before), few c)
 
-clear : (c : tie.After-enum-told) → firstFault (length (colours (start₃ (c .before .before .before .before)))) (start₃ (c .before .before .before .before) .args .m) none 0 (threes (edges (start₃ (c .before .before .before .before)))) ≡ none
+clear : (c : tie.After-enum-told) → firstFault (length (colours (start₃ (c .before .before .before .before)))) (start₃ (c .before .before .before .before) .args .m) none (listedFrom 0 (threes (edges (start₃ (c .before .before .before .before))))) ≡ none
 clear c = sym (c .before .before .test-list .ensures) ∙ ap faultOf (c .enum-told .given .1)
 
 length-is : (c : tie.After-bytes-for) → c .bytes-for .result ≡ lengthOf (start₃ (c .before .before .before .before .before .before) .args .p) (F (start₃ (c .before .before .before .before .before .before)))

@@ -9,8 +9,10 @@ use denote.Ref.{now}
 use lib.ListN.{length}
 use Rattle.meaning.specs.Filter as meaning
 use Rattle.layout.specs.Layout.{edgeBits}
-use Rattle.layout.specs.Contents.{edgeAt, edgesFrom}
+use Rattle.layout.specs.Contents.{placedFrom, edgeAt, edgesFrom}
+use Rattle.layout.specs.Code.{Small}
 use Rattle.layout.proofs.Bounds.{edges-high}
+use Rattle.layout.proofs.EdgeLists.{bare-read}
 use Rattle.drawing.specs.Profile.{edgeLine, edgeLines, larger, labelsOf}
 use Rattle.plotting.proofs.Laws.{next-place, edge-lines-longer, labels-longer}
 use Rattle.plotting.proofs.edges_extent.Statement.{statement}
@@ -24,28 +26,37 @@ abbrev μ-loop : tie.MeasureT-loop
 μ-loop p file begin e sum₀ labels₀ at₀ i₀ sum labels at i = e - i
 
 loop-holds : tie.Need-loop-holds Inv-loop μ-loop
-unfolding edgesFrom edgeLines labelsOf
+unfolding edgesFrom placedFrom edgeLines labelsOf
 loop-holds c = (omega arith, omega arith, omega arith, omega arith, omega arith)
 
+-- where the next edge begins
+near : (c : tie.In-loop Inv-loop μ-loop) → c .before .loop .at ≤ 1574960
+near c =
+    let loop = c .before .loop in
+    let start = c .before .before .before in
+    omega (arith, loop .inv .1, edges-high (start .args .p) (start .pre .0) (loop .i) (omega (arith, loop .inv .0, start .pre .2)), start .pre .1)
+
+read-requires : tie.Need-read-requires Inv-loop μ-loop
+read-requires c κs = (c .before .before .before .pre .0, omega (arith, near c))
+
+small : (c : tie.After-bare Inv-loop μ-loop) → Small (c .bare .result)
+small c = rw (c .bare .ensures) (c .before .read .ensures .1)
+
 add-at : tie.Need-add-at Inv-loop μ-loop
-add-at c =
-    let turn = c .before .before .before .before .before in
-    let loop = turn .before .loop in
-    let start = turn .before .before .before in
-    let most = edges-high (start .args .p) (start .pre .0) (loop .i) (omega (arith, loop .inv .0, start .pre .2)) in
-    omega (arith, c .edge-bits .ensures .1, loop .inv .1, most, start .pre .1)
+add-at c = omega (arith, c .edge-bits .ensures .1, near (c .before .before .before .before .before .before))
 
 loop-again : tie.Need-loop-again Inv-loop μ-loop
 loop-again c =
     let most = c .before in
     let long = most .before .before in
-    let read = long .before in
+    let plain = long .before in
+    let read = plain .before in
     let turn = read .before in
     let loop = turn .before .loop in
     let a = turn .before .before .before .args in
     let file = now (a .file) in
     let one = long .edge-length .ensures in
-    let here = read .read .ensures .0 ∙ ap (edgeAt (a .p) file) (loop .inv .1) in
+    let here = bare-read (a .p) file (loop .at) _ (plain .bare .result) (read .read .ensures .0) (plain .bare .ensures) ∙ ap (edgeAt (a .p) file) (loop .inv .1) in
     let is = one .0 ∙ ap (λ (d : meaning.Edge). length (edgeLine d)) here in
     let labels =
     most .larger .ensures ∙ ap₂ (λ (l : ℕ) (d : meaning.Edge). larger l (d .label + 1)) (loop .inv .3) here in (
@@ -71,10 +82,11 @@ edges-extent-spec =
     Inv-loop
     μ-loop
     loop-holds
+    read-requires
     (λ c κs. search needs)
-    (λ c κs. c .read .ensures .1)
+    (λ c κs. small c)
     (λ c. omega (arith, c .edge-length .ensures .1))
-    (λ c. omega (arith, c .before .before .read .ensures .1 .label))
+    (λ c. omega (arith, small (c .before .before) .label))
     (λ c κs. search needs)
     (λ c κs. search needs)
     add-at

@@ -12,8 +12,10 @@ use Rattle.meaning.specs.Filter as meaning
 use Rattle.text.specs.Decimal.{wrote}
 use Rattle.text.proofs.Laws.{same, both}
 use Rattle.layout.specs.Layout.{edgeBits}
-use Rattle.layout.specs.Contents.{edgeAt, edgesFrom}
+use Rattle.layout.specs.Contents.{placedFrom, edgeAt, edgesFrom}
+use Rattle.layout.specs.Code.{edgeOf}
 use Rattle.layout.proofs.Bounds.{edges-high}
+use Rattle.layout.proofs.EdgeLists.{bare-read}
 use Rattle.drawing.specs.Profile.{edgeLine, edgeLines}
 use Rattle.plotting.proofs.Laws.{next-place, edge-lines-more, edge-lines-fit}
 use Rattle.plotting.proofs.put_edges.Statement.{statement}
@@ -27,45 +29,59 @@ abbrev μ-loop : tie.MeasureT-loop
 μ-loop p room₀ begin file first e at₀ bit₀ i₀ room at bit i = e - i
 
 loop-holds : tie.Need-loop-holds Inv-loop μ-loop
-unfolding edgesFrom edgeLines
+unfolding edgesFrom placedFrom edgeLines
 loop-holds c =
     let a = c .before .before .args in
     (omega arith, omega arith, refl, paste-zero (now (a .room)) (a .begin) [], omega arith)
 
+-- where the next edge begins
+near : (c : tie.In-loop Inv-loop μ-loop) → c .before .loop .bit ≤ 1574960
+near c =
+    let loop = c .before .loop in
+    let start = c .before .before .before .before in
+    omega (arith, loop .inv .1, edges-high (start .args .p) (start .pre .0) (loop .i) (omega (arith, loop .inv .0, start .pre .2)), start .pre .1)
+
+read-requires : tie.Need-read-requires Inv-loop μ-loop
+read-requires c κs = (c .before .before .before .before .pre .0, omega (arith, near c))
+
+-- the edge that was read
+here : (c : tie.After-bare Inv-loop μ-loop) →
+    let loop = c .before .before .before in
+    let a = loop .before .before .before .args in
+    edgeOf (c .bare .result) ≡ edgeAt (a .p) (now (a .file)) (a .first + edgeBits (a .p) * loop .loop .i)
+here c =
+    let loop = c .before .before .before in
+    let a = loop .before .before .before .args in
+    bare-read (a .p) (now (a .file)) (loop .loop .bit) _ (c .bare .result) (c .before .read .ensures .0) (c .bare .ensures) ∙ ap (edgeAt (a .p) (now (a .file))) (loop .loop .inv .1)
+
 put-edge-requires : tie.Need-put-edge-requires Inv-loop μ-loop
 put-edge-requires c κs =
-    let turn = c .before .before in
+    let plain = c .before in
+    let turn = plain .before .before in
     let loop = turn .before .loop in
     let start = turn .before .before .before .before in
     let a = start .args in
     let file = now (a .file) in
-    let here = c .read .ensures .0 ∙ ap (edgeAt (a .p) file) (loop .inv .1) in
-    let is = ap (λ (d : meaning.Edge). length (edgeLine d)) here in (
-      c .read .ensures .1,
+    let is = ap (λ (d : meaning.Edge). length (edgeLine d)) (here plain) in (
+      rw (plain .bare .ensures) (plain .before .read .ensures .1),
       omega (arith, edge-lines-fit (a .p) file (a .first) (loop .i) (a .e) (turn .loop-test .taken), is, loop .inv .2, loop .inv .4, start .pre .3),
     )
 
 add-bit : tie.Need-add-bit Inv-loop μ-loop
-add-bit c =
-    let turn = c .before .before .before .before .before .before in
-    let loop = turn .before .loop in
-    let start = turn .before .before .before .before in
-    let most = edges-high (start .args .p) (start .pre .0) (loop .i) (omega (arith, loop .inv .0, start .pre .2)) in
-    omega (arith, c .edge-bits .ensures .1, loop .inv .1, most, start .pre .1)
+add-bit c = omega (arith, c .edge-bits .ensures .1, near (c .before .before .before .before .before .before .before))
 
 loop-again : tie.Need-loop-again Inv-loop μ-loop
 loop-again c =
     let put = c .before .before .before in
-    let read = put .before in
-    let turn = read .before .before in
+    let plain = put .before .before in
+    let turn = plain .before .before in
     let loop = turn .before .loop in
     let start = turn .before .before .before .before in
     let a = start .args in
     let file = now (a .file) in
     let room = now (a .room) in
     let place = a .first + edgeBits (a .p) * loop .i in
-    let here = read .read .ensures .0 ∙ ap (edgeAt (a .p) file) (loop .inv .1) in
-    let one = same (loop .room) (loop .at) (ap edgeLine here) (put .put-edge .ensures .0) (put .put-edge .ensures .1) in
+    let one = same (loop .room) (loop .at) (ap edgeLine (here plain)) (put .put-edge .ensures .0) (put .put-edge .ensures .1) in
     let more =
     both room (a .begin) (edgeLines (edgesFrom (a .p) file (a .first) (loop .i))) (edgeLine (edgeAt (a .p) file place)) (omega (arith, start .pre .3)) (loop .inv .3) (loop .inv .4) (one .0) (one .1) in
     let done = same room (a .begin) (edge-lines-more (a .p) file (a .first) (loop .i)) (more .0) (more .1) in (
@@ -90,6 +106,7 @@ put-edges-spec =
     Inv-loop
     μ-loop
     loop-holds
+    read-requires
     (λ c κs. search needs)
     put-edge-requires
     (λ c κs. search needs)

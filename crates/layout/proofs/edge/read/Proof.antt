@@ -4,23 +4,23 @@ use native.Mathlib.Nat.{lt-of-lt-of-le}
 use native.Mathlib.Omega.{arith}
 use lib.Pow.{pow-pos, pow-mono}
 use Rattle.bits.proofs.Reading.{one-shl, field-lt}
-use Rattle.layout.specs.Contents.{edgeAt}
+use Rattle.layout.specs.Contents.{placedAt}
 use Rattle.layout.proofs.EdgeLists.{parts}
 use borrow.Author.Needs.{needs}
 use Rattle.layout.proofs.edge.read.Statement.{statement}
 use Rattle.layout.proofs.edge.read.Tie as tie
 
-rem-t12 : tie.Need-rem-t12
-rem-t12 c = rw (one-shl (c .before .before .args .p .labels) (omega arith)) (pow-pos (c .before .before .args .p .labels))
+rem-t13 : tie.Need-rem-t13
+rem-t13 c = rw (one-shl (c .before .before .args .p .labels) (omega arith)) (pow-pos (c .before .before .args .p .labels))
 
-rem-t14 : tie.Need-rem-t14
-rem-t14 c = rw (one-shl (c .before .before .args .p .states) (omega arith)) (pow-pos (c .before .before .args .p .states))
+rem-t17 : tie.Need-rem-t17
+rem-t17 c = rw (one-shl (c .before .before .args .p .states) (omega arith)) (pow-pos (c .before .before .args .p .states))
 
 returns : tie.Need-returns
-unfolding edgeAt
+unfolding placedAt
 returns c =
     let a = c .before .before .args in
-    let ok = c .before .before .pre in
+    let ok = c .before .before .pre .0 in
     let q = parts (now (a .file)) (a .at) (a .p .states) (a .p .labels) in
     rw (one-shl (a .p .labels) (omega arith), one-shl (a .p .states) (omega arith), c .get .ensures .0, q .first, q .second, q .third) (
       refl,
@@ -42,7 +42,10 @@ read-spec =
     (λ c. search needs)
     (λ c. search needs)
     (λ c. search needs)
-    rem-t12
+    rem-t13
     (λ c. search needs)
-    rem-t14
+    (λ c. search needs)
+    rem-t17
+    (λ c. search needs)
+    (λ c. search needs)
     returns)

@@ -20,10 +20,14 @@ returns-2 c =
 are-bytes : (c : tie.Else1) → bytes (c .before .before .before .before .args .edge) ≡ true
 are-bytes c = sym (c .before .bytes .ensures) ∙ not-false _ (c .if1 .left)
 
+test-requires : tie.Need-test-requires
+test-requires c κs = rw (c .listed .ensures) (small-edge _ (are-bytes (c .before)))
+
 returns-3 : tie.Need-returns-3
 returns-3 c =
-    let else1 = c .before .before in
-    judged-tested _ _ _ _ _ (else1 .before .before .enum-told .given .1) (are-bytes else1) (c .before .test .ensures) (c .rank .ensures)
+    let tested = c .before in
+    let else1 = tested .before .before in
+    judged-tested _ _ _ _ _ (else1 .before .before .enum-told .given .1) (are-bytes else1) (rw (tested .before .listed .ensures) at (tested .test .ensures)) (c .rank .ensures)
 
 pub with-edge-spec : {M : Type 1} → statement M
 with-edge-spec =
@@ -35,6 +39,7 @@ with-edge-spec =
     (λ c κs. search needs)
     (λ c κs. search needs)
     returns-2
-    (λ c κs. small-edge _ (are-bytes c))
-    (λ c κs. small-edge _ (are-bytes (c .before)))
+    (λ c κs. search needs)
+    test-requires
+    (λ c κs. small-edge _ (are-bytes (c .before .before)))
     returns-3)

@@ -1,0 +1,197 @@
+-- Where a file is refused with 7, 8 or 9 at a place, the bits at that place are the faulty field: the first one of the first faulty edge
+-- (document 02, "Say where in the bits").
+-- Assumes nothing.
+use Prim.Native.Nat.{ℕ, zero, suc, _+_, _*_, _≤_, _<_}
+use mathlib.Core.Path.{_≡_, refl, _∙_}
+use mathlib.Core.Bool.{Bool, true}
+use mathlib.Core.List.{List}
+use mathlib.Core.Option.{Option, none, some}
+use native.Mathlib.Nat.{add-zero, mul-zero, mul-suc, mul-le-mul, le-refl}
+use native.Mathlib.Omega.{arith}
+use lib.Dec.{leb}
+use lib.ListN.{length}
+use borrow.Author.Tests.{lt-ltb, leb-true, leb-false, ltb-false}
+use Rattle.bits.specs.Bits.{field}
+use Rattle.meaning.specs.Cases.{impossible, cases-of}
+use Rattle.meaning.specs.Filter.{Edge, inside, comesBefore, samePlace}
+use Rattle.refusals.specs.Refusals.{accepted, refused}
+use Rattle.refusals.proofs.Laws.{numbersBelow, first-behind}
+use Rattle.layout.specs.declared.Profile.{Profile}
+use Rattle.layout.specs.declared.edge.Placed.{Placed}
+use Rattle.layout.specs.Layout.{edgeBits, edgesBegin, fileBits, bytesFor, fileLength}
+use Rattle.layout.specs.Contents.{statesIn, labelsIn, countIn, values, placedAt, placedFrom, placedIn, edgeAt, lengthIn}
+use Rattle.edges.specs.Faults.{Fault, faulty, orderFault, edgeFault, orElse, firstFault, edgesThen}
+use Rattle.files.specs.Files.{fileTests, numbersIn, fromEdges, checkOf}
+
+-- The position of edge i's first bit.
+abbrev pub edgeBegins : Profile → List ℕ → ℕ → ℕ
+edgeBegins P file i = edgesBegin P (statesIn P file) + edgeBits P * i
+
+-- Edge i is there with all its bits, and no edge before it has a fault.
+pub record Reached (P : Profile) (file : List ℕ) (i : ℕ) : Type 0 where
+  pub inside : i < countIn P file
+  pub bits : edgeBegins P file i + edgeBits P ≤ 8 * length file
+  pub clear : firstFault (statesIn P file) (labelsIn P file) none (placedFrom P file (edgesBegin P (statesIn P file)) i) ≡ none
+
+-- 7: at the place stands the source of an edge that is reached, and it is n or more; or its label, which is m or more, behind a source below n;
+-- or its target, which is n or more, behind a source below n and a label below m.
+pub data Outside (P : Profile) (file : List ℕ) (place : ℕ) : Type 0 where
+  source-at : (i : ℕ) → Reached P file i → place ≡ edgeBegins P file i → statesIn P file ≤ field file place (P .states) → Outside P file place
+  label-at : (i : ℕ) → Reached P file i → place ≡ edgeBegins P file i + P .states → labelsIn P file ≤ field file place (P .labels) →
+      edgeAt P file (edgeBegins P file i) .source < statesIn P file → Outside P file place
+  target-at : (i : ℕ) → Reached P file i → place ≡ edgeBegins P file i + P .states + P .labels → statesIn P file ≤ field file place (P .states) →
+      edgeAt P file (edgeBegins P file i) .source < statesIn P file → edgeAt P file (edgeBegins P file i) .label < labelsIn P file → Outside P file place
+
+-- 8 and 9: the edge whose source stands at the place has no field that is too high, and does not come behind edge `index`, the one before it;
+-- `fault` says how: `comesBefore` for 8, `samePlace` for 9.
+pub record NotBehind (fault : Edge → Edge → Bool) (P : Profile) (file : List ℕ) (place : ℕ) : Type 0 where
+  pub index : ℕ
+  pub reached : Reached P file (suc index)
+  pub source-at : place ≡ edgeBegins P file (suc index)
+  pub within : inside (statesIn P file) (labelsIn P file) (edgeAt P file place) ≡ true
+  pub holds : fault (edgeAt P file place) (edgeAt P file (edgeBegins P file index)) ≡ true
+
+-- What stands at the place of a refusal of a file's edges.
+pub data FaultyField (P : Profile) (file : List ℕ) (number place : ℕ) : Type 0 where
+  outside : number ≡ 7 → Outside P file place → FaultyField P file number place
+  disorder : number ≡ 8 → NotBehind comesBefore P file place → FaultyField P file number place
+  repetition : number ≡ 9 → NotBehind samePlace P file place → FaultyField P file number place
+
+-- ---- the fault of one edge
+
+-- which field is faulty, and why
+pub data Faulty (n m : ℕ) (before : Option Edge) (e : Placed) (f : Fault) : Type 0 where
+  source : n ≤ e .source .value → faulty 7 (e .source) ≡ some f → Faulty n m before e f
+  label : e .source .value < n → m ≤ e .label .value → faulty 7 (e .label) ≡ some f → Faulty n m before e f
+  target : e .source .value < n → e .label .value < m → n ≤ e .target .value → faulty 7 (e .target) ≡ some f → Faulty n m before e f
+  order : (b : Edge) → inside n m (values e) ≡ true → before ≡ some b → comesBefore (values e) b ≡ true → faulty 8 (e .source) ≡ some f → Faulty n m before e f
+  repeated : (b : Edge) → inside n m (values e) ≡ true → before ≡ some b → samePlace (values e) b ≡ true → faulty 9 (e .source) ≡ some f → Faulty n m before e f
+
+order-faulty : (n m : ℕ) (before : Option Edge) (e : Placed) (f : Fault) → inside n m (values e) ≡ true → orderFault before e ≡ some f → Faulty n m before e f
+order-faulty n m none e f i h = impossible cc
+order-faulty n m (some b) e f i h = cases-of (comesBefore (values e) b) (λ q. order b i refl q (rw q at h))
+    (λ q. cases-of (samePlace (values e) b) (λ t. repeated b i refl t (rw (q, t) at h))
+    (λ t. let z : none ≡ some f = rw (q, t) at h in impossible cc))
+
+pub edge-faulty : (n m : ℕ) (before : Option Edge) (e : Placed) (f : Fault) → edgeFault n m before e ≡ some f → Faulty n m before e f
+unfolding edgeFault inside
+edge-faulty n m before e f h = cases-of (leb n (e .source .value)) (λ q. source (leb-true _ _ q) (rw q at h))
+    (λ q. let low = leb-false _ _ q in
+    cases-of (leb m (e .label .value)) (λ t. label low (leb-true _ _ t) (rw (q, t) at h))
+    (λ t. cases-of (leb n (e .target .value)) (λ u. target low (leb-false _ _ t) (leb-true _ _ u) (rw (q, t, u) at h))
+    (λ u. let all : inside n m (values e) ≡ true = rw (lt-ltb (e .source .value) n low, lt-ltb (e .label .value) m (leb-false _ _ t), lt-ltb (e .target .value) n (leb-false _ _ u)) in
+    order-faulty n m before e f all (rw (q, t, u) at h))))
+
+-- ---- the first fault of a file's edges
+
+module _ (P : Profile) (file : List ℕ) where
+  -- the edge before edge i, where the first begins at bit `at` behind `before`
+  abbrev edgeBefore : Option Edge → ℕ → ℕ → Option Edge
+  edgeBefore before at zero = before
+  edgeBefore before at (suc i) = some (edgeAt P file (at + edgeBits P * i))
+
+  before-next : (before : Option Edge) (at i : ℕ) → edgeBefore (some (values (placedAt P file at))) (at + edgeBits P) i ≡ edgeBefore before at (suc i)
+  unfolding edgeAt
+  before-next before at zero = rw (mul-zero (edgeBits P), add-zero at)
+  before-next before at (suc i) = let k : at + edgeBits P + edgeBits P * i ≡ at + edgeBits P * suc i = omega (arith, mul-suc (edgeBits P) i) in rw k
+
+module _ (P : Profile) (file : List ℕ) (n m : ℕ) where
+  pub record FirstOf (before : Option Edge) (at e : ℕ) (f : Fault) : Type 0 where
+    pub index : ℕ
+    pub inside : index < e
+    pub clear : firstFault n m before (placedFrom P file at index) ≡ none
+    pub fault : Faulty n m (edgeBefore P file before at index) (placedAt P file (at + edgeBits P * index)) f
+
+  -- the first edge's own fault, or the first fault of those behind it
+  first-by : (before : Option Edge) (at e : ℕ) (f : Fault) (o : Option Fault) → edgeFault n m before (placedAt P file at) ≡ o →
+      orElse o (firstFault n m (some (values (placedAt P file at))) (placedFrom P file (at + edgeBits P) e)) ≡ some f →
+      (firstFault n m (some (values (placedAt P file at))) (placedFrom P file (at + edgeBits P) e) ≡ some f → FirstOf (some (values (placedAt P file at))) (at + edgeBits P) e f) →
+      FirstOf before at (suc e) f
+  unfolding placedFrom firstFault
+  first-by before at e f (some g) q h later = record {
+    index = 0;
+    inside = omega arith;
+    clear = refl;
+    fault = rw (mul-zero (edgeBits P), add-zero at) (edge-faulty n m before (placedAt P file at) f (q ∙ h));
+  }
+  first-by before at e f none q h later =
+      let r = later h in
+      let k : at + edgeBits P + edgeBits P * r .index ≡ at + edgeBits P * suc (r .index) = omega (arith, mul-suc (edgeBits P) (r .index)) in
+      record {
+        index = suc (r .index);
+        inside = omega (arith, r .inside);
+        clear = rw q (r .clear);
+        fault = rw (← before-next P file before at (r .index), ← k) (r .fault);
+      }
+
+  pub first-of : (before : Option Edge) (at e : ℕ) (f : Fault) → firstFault n m before (placedFrom P file at e) ≡ some f → FirstOf before at e f
+  unfolding placedFrom firstFault
+  first-of before at zero f h = impossible cc
+  first-of before at (suc e) f h =
+      first-by before at e f (edgeFault n m before (placedAt P file at)) refl h (first-of (some (values (placedAt P file at))) (at + edgeBits P) e f)
+
+-- ---- what a refusal names
+
+edges-refused : (o : Option Fault) (vs : List ℕ) (k p : ℕ) → edgesThen o (accepted vs) ≡ refused k p → o ≡ some (record { number = k; place = p })
+edges-refused none vs k p h = impossible cc
+edges-refused (some f) vs k p h =
+    let a : f .number ≡ k = cc in
+    let b : f .place ≡ p = cc in
+    rw (← a, ← b)
+
+pub fault-is : {k place : ℕ} (f : Fault) → some (record { number = k; place = place }) ≡ some f → (f .number ≡ k) × (f .place ≡ place)
+fault-is f is = (cc, cc)
+
+module _ (P : Profile) (file : List ℕ) where
+  abbrev before : ℕ → Option Edge
+  before = edgeBefore P file none (edgesBegin P (statesIn P file))
+
+  -- the edge before another is the one with the index before
+  not-behind : (fault : Edge → Edge → Bool) (i : ℕ) (b : Edge) (place : ℕ) → Reached P file i → inside (statesIn P file) (labelsIn P file) (values (placedAt P file (edgeBegins P file i))) ≡ true →
+      before i ≡ some b → fault (values (placedAt P file (edgeBegins P file i))) b ≡ true → place ≡ edgeBegins P file i → NotBehind fault P file place
+  unfolding edgeAt
+  not-behind fault zero b place there all e q at = impossible cc
+  not-behind fault (suc i) b place there all e q at =
+      let is : edgeAt P file (edgeBegins P file i) ≡ b = cc in
+      record { index = i; reached = there; source-at = at; within = rw at all; holds = rw (at, is) q }
+
+  field-named : (i : ℕ) (f : Fault) → Reached P file i → Faulty (statesIn P file) (labelsIn P file) (before i) (placedAt P file (edgeBegins P file i)) f →
+      FaultyField P file (f .number) (f .place)
+  unfolding placedAt edgeAt
+  field-named i f there (source high is) =
+      let at = fault-is f is in outside (at .0) (source-at i there (at .1) (rw (at .1) high))
+  field-named i f there (label low high is) =
+      let at = fault-is f is in outside (at .0) (label-at i there (at .1) (rw (at .1) high) low)
+  field-named i f there (target low known high is) =
+      let at = fault-is f is in outside (at .0) (target-at i there (at .1) (rw (at .1) high) low known)
+  field-named i f there (order b all e q is) = let at = fault-is f is in disorder (at .0) (not-behind comesBefore i b (f .place) there all e q (at .1))
+  field-named i f there (repeated b all e q is) = let at = fault-is f is in repetition (at .0) (not-behind samePlace i b (f .place) there all e q (at .1))
+
+  tests-below : (number : ℕ) → 6 < number → numbersBelow number (fileTests P file) ≡ true
+  unfolding fileTests
+  tests-below k h =
+      rw (
+        lt-ltb 1 k (omega arith),
+        lt-ltb 2 k (omega arith),
+        lt-ltb 3 k (omega arith),
+        lt-ltb 4 k (omega arith),
+        lt-ltb 5 k (omega arith),
+        lt-ltb 6 k (omega arith),
+      )
+
+  -- a file that is refused with a number above 6 is refused with 7, 8 or 9, and has the faulty field at the place
+  pub faulty-field : (number place : ℕ) → 6 < number → checkOf P file ≡ refused number place → FaultyField P file number place
+  unfolding checkOf fileTests placedIn lengthIn fileLength bytesFor fileBits
+  faulty-field number place above h =
+      let p = first-behind (fileTests P file) (fromEdges P file) number place (tests-below number above) h in
+      let f : Fault = record { number = number; place = place } in
+      let first = first-of P file (statesIn P file) (labelsIn P file) none (edgesBegin P (statesIn P file)) (countIn P file) f
+      (edges-refused _ (numbersIn P file) number place (p .1)) in
+      let long = ltb-false (length file) (lengthIn P file) (p .0 .1 .1 .1 .0) in
+      let fits : edgeBits P * suc (first .index) ≤ edgeBits P * countIn P file = mul-le-mul (le-refl (edgeBits P)) (omega (arith, first .inside)) in
+      let there : Reached P file (first .index) = record {
+        inside = first .inside;
+        bits = omega (arith, long, fits, mul-suc (edgeBits P) (first .index));
+        clear = first .clear;
+      } in
+      field-named (first .index) f there (first .fault)
