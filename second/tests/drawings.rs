@@ -373,9 +373,11 @@ fn what_is_not_drawn() {
             rides.push(Ride::refused(draw_in(file, room), number, 0));
         }
         for (edges, number, place) in [
-            ([(0, 0, 1), (3, 0, 0)], 7, 1),
-            ([(0, 1, 1), (0, 0, 1)], 8, 1),
-            ([(0, 0, 1), (0, 0, 2)], 9, 1),
+            // Edge 1 begins at bit 37 + 3 * 6 + 22, its target 14 bits behind that.
+            ([(0, 0, 1), (3, 0, 0)], 7, 77),
+            ([(0, 0, 1), (1, 0, 3)], 7, 91),
+            ([(0, 1, 1), (0, 0, 1)], 8, 77),
+            ([(0, 0, 1), (0, 0, 2)], 9, 77),
         ] {
             for (m, start) in [(2, 0), (9, 0), (2, 1)] {
                 let faulty = file(m, start, &edges);

@@ -184,8 +184,11 @@ fn the_document_on_the_file_finds_the_fault() {
     let document = fs::read_to_string(examples().join("../docs/FORMAT.md")).expect("the document");
     let mut faulty = K.to_vec();
     faulty[13] ^= 1;
-    let bytes: Vec<String> = faulty.iter().map(|byte| format!("{byte:02x}")).collect();
-    let shown = format!("\n    {}\n", bytes.join(" "));
+    let mut shown = String::new();
+    for (nth, line) in faulty.chunks(16).enumerate() {
+        let bytes: Vec<String> = line.iter().map(|byte| format!("{byte:02x}")).collect();
+        shown += &format!("    {:08x}: {}\n", 16 * nth, bytes.join(" "));
+    }
     assert!(document.contains(&shown), "{shown} is not shown");
     let answer = check(&faulty);
     assert_eq!((answer.number, answer.place), (7, 107));

@@ -28,25 +28,25 @@ abbrev pub edgeBegins : Profile → List ℕ → ℕ → ℕ
 edgeBegins P file i = edgesBegin P (statesIn P file) + edgeBits P * i
 
 -- Edge i is there with all its bits, and no edge before it has a fault.
-pub record Reached (P : Profile) (file : List ℕ) (i : ℕ) : Type 0 where
+pub record ClearBefore (P : Profile) (file : List ℕ) (i : ℕ) : Type 0 where
   pub inside : i < countIn P file
   pub bits : edgeBegins P file i + edgeBits P ≤ 8 * length file
   pub clear : firstFault (statesIn P file) (labelsIn P file) none (placedFrom P file (edgesBegin P (statesIn P file)) i) ≡ none
 
--- 7: at the place stands the source of an edge that is reached, and it is n or more; or its label, which is m or more, behind a source below n;
--- or its target, which is n or more, behind a source below n and a label below m.
+-- 7: at the place stands the source of such an edge, and it is n or more; or its label, which is m or more, behind a source below n; or its
+-- target, which is n or more, behind a source below n and a label below m.
 pub data Outside (P : Profile) (file : List ℕ) (place : ℕ) : Type 0 where
-  source-at : (i : ℕ) → Reached P file i → place ≡ edgeBegins P file i → statesIn P file ≤ field file place (P .states) → Outside P file place
-  label-at : (i : ℕ) → Reached P file i → place ≡ edgeBegins P file i + P .states → labelsIn P file ≤ field file place (P .labels) →
+  source-at : (i : ℕ) → ClearBefore P file i → place ≡ edgeBegins P file i → statesIn P file ≤ field file place (P .states) → Outside P file place
+  label-at : (i : ℕ) → ClearBefore P file i → place ≡ edgeBegins P file i + P .states → labelsIn P file ≤ field file place (P .labels) →
       edgeAt P file (edgeBegins P file i) .source < statesIn P file → Outside P file place
-  target-at : (i : ℕ) → Reached P file i → place ≡ edgeBegins P file i + P .states + P .labels → statesIn P file ≤ field file place (P .states) →
+  target-at : (i : ℕ) → ClearBefore P file i → place ≡ edgeBegins P file i + P .states + P .labels → statesIn P file ≤ field file place (P .states) →
       edgeAt P file (edgeBegins P file i) .source < statesIn P file → edgeAt P file (edgeBegins P file i) .label < labelsIn P file → Outside P file place
 
--- 8 and 9: the edge whose source stands at the place has no field that is too high, and does not come behind edge `index`, the one before it;
+-- 8 and 9: such an edge, whose source stands at the place, has no field that is too high, and does not come behind edge `index`, the one before it;
 -- `fault` says how: `comesBefore` for 8, `samePlace` for 9.
 pub record NotBehind (fault : Edge → Edge → Bool) (P : Profile) (file : List ℕ) (place : ℕ) : Type 0 where
   pub index : ℕ
-  pub reached : Reached P file (suc index)
+  pub clear : ClearBefore P file (suc index)
   pub source-at : place ≡ edgeBegins P file (suc index)
   pub within : inside (statesIn P file) (labelsIn P file) (edgeAt P file place) ≡ true
   pub holds : fault (edgeAt P file place) (edgeAt P file (edgeBegins P file index)) ≡ true
@@ -147,15 +147,15 @@ module _ (P : Profile) (file : List ℕ) where
   before = edgeBefore P file none (edgesBegin P (statesIn P file))
 
   -- the edge before another is the one with the index before
-  not-behind : (fault : Edge → Edge → Bool) (i : ℕ) (b : Edge) (place : ℕ) → Reached P file i → inside (statesIn P file) (labelsIn P file) (values (placedAt P file (edgeBegins P file i))) ≡ true →
+  not-behind : (fault : Edge → Edge → Bool) (i : ℕ) (b : Edge) (place : ℕ) → ClearBefore P file i → inside (statesIn P file) (labelsIn P file) (values (placedAt P file (edgeBegins P file i))) ≡ true →
       before i ≡ some b → fault (values (placedAt P file (edgeBegins P file i))) b ≡ true → place ≡ edgeBegins P file i → NotBehind fault P file place
   unfolding edgeAt
   not-behind fault zero b place there all e q at = impossible cc
   not-behind fault (suc i) b place there all e q at =
       let is : edgeAt P file (edgeBegins P file i) ≡ b = cc in
-      record { index = i; reached = there; source-at = at; within = rw at all; holds = rw (at, is) q }
+      record { index = i; clear = there; source-at = at; within = rw at all; holds = rw (at, is) q }
 
-  field-named : (i : ℕ) (f : Fault) → Reached P file i → Faulty (statesIn P file) (labelsIn P file) (before i) (placedAt P file (edgeBegins P file i)) f →
+  field-named : (i : ℕ) (f : Fault) → ClearBefore P file i → Faulty (statesIn P file) (labelsIn P file) (before i) (placedAt P file (edgeBegins P file i)) f →
       FaultyField P file (f .number) (f .place)
   unfolding placedAt edgeAt
   field-named i f there (source high is) =
@@ -189,7 +189,7 @@ module _ (P : Profile) (file : List ℕ) where
       (edges-refused _ (numbersIn P file) number place (p .1)) in
       let long = ltb-false (length file) (lengthIn P file) (p .0 .1 .1 .1 .0) in
       let fits : edgeBits P * suc (first .index) ≤ edgeBits P * countIn P file = mul-le-mul (le-refl (edgeBits P)) (omega (arith, first .inside)) in
-      let there : Reached P file (first .index) = record {
+      let there : ClearBefore P file (first .index) = record {
         inside = first .inside;
         bits = omega (arith, long, fits, mul-suc (edgeBits P) (first .index));
         clear = first .clear;

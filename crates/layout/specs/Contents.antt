@@ -52,6 +52,7 @@ unfoldable pub placedFrom : Profile → List ℕ → ℕ → ℕ → List Placed
 placedFrom P file at zero = []
 placedFrom P file at (suc e) = placedAt P file at ∷ placedFrom P file (at + edgeBits P) e
 
+-- Those of all edges of the file.
 unfoldable pub placedIn : Profile → List ℕ → List Placed
 placedIn P file = placedFrom P file (edgesBegin P (statesIn P file)) (countIn P file)
 
@@ -59,12 +60,15 @@ placedIn P file = placedFrom P file (edgesBegin P (statesIn P file)) (countIn P 
 abbrev pub values : Placed → Edge
 values e = record { source = e .source .value; label = e .label .value; target = e .target .value }
 
+-- The edge whose first bit is at `at`.
 unfoldable pub edgeAt : Profile → List ℕ → ℕ → Edge
 edgeAt P file at = values (placedAt P file at)
 
+-- e edges, one after another from `at` on.
 unfoldable pub edgesFrom : Profile → List ℕ → ℕ → ℕ → List Edge
 edgesFrom P file at e = map values (placedFrom P file at e)
 
+-- All edges of the file.
 unfoldable pub edgesIn : Profile → List ℕ → List Edge
 edgesIn P file = map values (placedIn P file)
 

@@ -58,19 +58,19 @@ room c =
     omega (arith, loop .loop .inv .behind, loop .loop .inv .long, c .before .before .if1 .taken, loop .before .before .before .before .pre .holds)
 
 cast-out : tie.Need-cast-out Inv-loop μ-loop
-cast-out c = omega (arith, small (c .before) .source)
+cast-out c = let bytes = small (c .before) in omega arith
 
 slice-write-out : tie.Need-slice-write-out Inv-loop μ-loop
 slice-write-out c = omega (arith, room (c .before))
 
 cast-out-2 : tie.Need-cast-out-2 Inv-loop μ-loop
-cast-out-2 c = omega (arith, small (c .before .before) .label)
+cast-out-2 c = let bytes = small (c .before .before) in omega arith
 
 slice-write-out-2 : tie.Need-slice-write-out-2 Inv-loop μ-loop
 slice-write-out-2 c = simp length-set (omega (arith, room (c .before .before)))
 
 cast-out-3 : tie.Need-cast-out-3 Inv-loop μ-loop
-cast-out-3 c = omega (arith, small (c .before .before .before) .target)
+cast-out-3 c = let bytes = small (c .before .before .before) in omega arith
 
 slice-write-out-3 : tie.Need-slice-write-out-3 Inv-loop μ-loop
 slice-write-out-3 c = simp length-set (room (c .before .before .before))
