@@ -103,8 +103,8 @@ pub fn one_faulty_edge(top_label: u64, random: &mut Random) -> Vec<Filter> {
     filters
 }
 
-/// Faults that one edge can have at once, in the order in which they are told: every pair and all three of 7's, and each
-/// of them where there is 8 or 9 too.
+/// Faults that one edge can have at once, in the order in which they are told: every pair of 7's, all three, and each
+/// alone where there is 8 or 9 too.
 pub const TOGETHER: &[&[Damage]] = &[
     &[Damage::Source, Damage::Label],
     &[Damage::Source, Damage::Target],
