@@ -62,23 +62,32 @@ order-clear e b h =
     let q = pick-clear (samePlace (values e) b) _ none (p .1) in
     after (values e) b (p .0) (q .0)
 
+-- fields that are not too high are inside
+pub fields-inside : (n m : ℕ) (e : Placed) → leb n (e .source .value) ≡ false → leb m (e .label .value) ≡ false → leb n (e .target .value) ≡ false → inside n m (values e) ≡ true
+unfolding inside
+fields-inside n m e s l t =
+    rw (
+      lt-ltb (e .source .value) n (leb-false _ _ s),
+      lt-ltb (e .label .value) m (leb-false _ _ l),
+      lt-ltb (e .target .value) n (leb-false _ _ t),
+    )
+
 inside-clear : (n m : ℕ) (before : Option Edge) (e : Placed) → edgeFault n m before e ≡ none → (inside n m (values e) ≡ true) × (orderFault before e ≡ none)
-unfolding edgeFault inside
+unfolding edgeFault
 inside-clear n m before e h =
     let source = pick-clear (leb n (e .source .value)) _ _ h in
     let label = pick-clear (leb m (e .label .value)) _ _ (source .1) in
-    let target = pick-clear (leb n (e .target .value)) _ (orderFault before e) (label .1) in (
-      rw (
-        lt-ltb (e .source .value) n (leb-false _ _ (source .0)),
-        lt-ltb (e .label .value) m (leb-false _ _ (label .0)),
-        lt-ltb (e .target .value) n (leb-false _ _ (target .0)),
-      ),
-      target .1,
-    )
+    let target = pick-clear (leb n (e .target .value)) _ (orderFault before e) (label .1) in
+    (fields-inside n m e (source .0) (label .0) (target .0), target .1)
 
 else-clear : (f next : Option Fault) → orElse f next ≡ none → (f ≡ none) × (next ≡ none)
 else-clear none next h = (refl, h)
 else-clear (some f) next h = impossible cc
+
+-- the first fault is the first edge's, or there is none there and it is the next one
+pub else-cases : {A : Type 0} (o next : Option Fault) (f : Fault) → orElse o next ≡ some f → (o ≡ some f → A) → (o ≡ none → next ≡ some f → A) → A
+else-cases (some g) next f h here later = here h
+else-cases none next f h here later = later refl h
 
 clear-first : (n m : ℕ) (before : Option Edge) (e : Placed) (es : List Placed) → firstFault n m before (e ∷ es) ≡ none →
     (edgeFault n m before e ≡ none) × (firstFault n m (some (values e)) es ≡ none)
@@ -120,18 +129,19 @@ order-free : (before : Option Edge) (e : Placed) → ((b : Edge) → before ≡ 
 order-free none e h = refl
 order-free (some b) e h = let q = after-not (values e) b (h b refl) in rw (q .0, q .1)
 
+-- past the tests for 7 the order decides
+pub order-decides : (n m : ℕ) (before : Option Edge) (e : Placed) → e .source .value < n → e .label .value < m → e .target .value < n → edgeFault n m before e ≡ orderFault before e
+unfolding edgeFault
+order-decides n m before e s l t = rw (lt-leb n (e .source .value) s, lt-leb m (e .label .value) l, lt-leb n (e .target .value) t)
+
 inside-free : (n m : ℕ) (before : Option Edge) (e : Placed) → inside n m (values e) ≡ true → edgeFault n m before e ≡ orderFault before e
-unfolding edgeFault inside
+unfolding inside
 inside-free n m before e h =
     let s = ltb (e .source .value) n in
     let l = ltb (e .label .value) m in
     let t = ltb (e .target .value) n in
     let rest = and-right s (l && t) h in
-    rw (
-      lt-leb n (e .source .value) (ltb-true _ _ (and-left s (l && t) h)),
-      lt-leb m (e .label .value) (ltb-true _ _ (and-left l t rest)),
-      lt-leb n (e .target .value) (ltb-true _ _ (and-right l t rest)),
-    )
+    order-decides n m before e (ltb-true _ _ (and-left s (l && t) h)) (ltb-true _ _ (and-left l t rest)) (ltb-true _ _ (and-right l t rest))
 
 -- labels below 256: the order of edges is that of their ranks
 by-rank : (a b : Edge) → b .label < 256 → rankOf (some a) < rankOf (some b) → comesBefore a b ≡ true

@@ -11,7 +11,7 @@ use Rattle.layout.specs.declared.edge.Placed.{Placed}
 use Rattle.layout.specs.Layout.{edgeBits}
 use Rattle.layout.specs.Contents.{values, placedAt, placedFrom}
 use Rattle.layout.specs.Code.{Usable, Small, bare}
-use Rattle.layout.proofs.Bounds.{edges-high}
+use Rattle.layout.proofs.Bounds.{place-high}
 use Rattle.layout.proofs.EdgeLists.{placed-cons}
 use Rattle.edges.specs.declared.Verdict.{Verdict}
 use Rattle.edges.specs.declared.Cursor.{Cursor}
@@ -37,7 +37,7 @@ module _ (P : Profile) (file : List ℕ) (at e n m : ℕ) where
   module _ (c : Cursor) (w : Walked P file at e n m c) where
     -- the cursor's numbers are small enough for the next step's
     pub walk-near : Usable P → at ≤ 2096 → e ≤ 65536 → (c .place < 2 ^ 63) × (c .index < 2 ^ 63)
-    walk-near ok ha he = (omega (arith, w .placed, edges-high P ok (c .index) (omega (arith, w .inside))), omega (arith, w .inside))
+    walk-near ok ha he = (omega (arith, w .placed, place-high P ok at (c .index) ha (omega (arith, w .inside))), omega (arith, w .inside))
 
     module _ (edge : Placed) (read : edge ≡ placedAt P file (c .place)) (v : Verdict) (tested : Tested n m (c .rank) edge v) (more : c .index < e) where
       -- what the test found is the fault of the edge that was read

@@ -2,7 +2,7 @@
 -- (document 02, "Say where in the bits").
 -- Assumes nothing.
 use Prim.Native.Nat.{ℕ, zero, suc, _+_, _*_, _≤_, _<_}
-use mathlib.Core.Path.{_≡_, refl, _∙_}
+use mathlib.Core.Path.{_≡_, refl}
 use mathlib.Core.Bool.{Bool, true}
 use mathlib.Core.List.{List}
 use mathlib.Core.Option.{Option, none, some}
@@ -20,7 +20,8 @@ use Rattle.layout.specs.declared.Profile.{Profile}
 use Rattle.layout.specs.declared.edge.Placed.{Placed}
 use Rattle.layout.specs.Layout.{edgeBits, edgesBegin, fileBits, bytesFor, fileLength}
 use Rattle.layout.specs.Contents.{statesIn, labelsIn, countIn, values, placedAt, placedFrom, placedIn, edgeAt, lengthIn}
-use Rattle.edges.specs.Faults.{Fault, faulty, orderFault, edgeFault, orElse, firstFault, edgesThen}
+use Rattle.edges.specs.Faults.{Fault, faulty, orderFault, edgeFault, firstFault, edgesThen}
+use Rattle.edges.proofs.Tests.{fields-inside, else-cases}
 use Rattle.files.specs.Files.{fileTests, numbersIn, fromEdges, checkOf}
 
 -- The position of edge i's first bit.
@@ -74,13 +75,12 @@ order-faulty n m (some b) e f i h = cases-of (comesBefore (values e) b) (λ q. o
     (λ t. let z : none ≡ some f = rw (q, t) at h in impossible cc))
 
 pub edge-faulty : (n m : ℕ) (before : Option Edge) (e : Placed) (f : Fault) → edgeFault n m before e ≡ some f → Faulty n m before e f
-unfolding edgeFault inside
+unfolding edgeFault
 edge-faulty n m before e f h = cases-of (leb n (e .source .value)) (λ q. source (leb-true _ _ q) (rw q at h))
     (λ q. let low = leb-false _ _ q in
     cases-of (leb m (e .label .value)) (λ t. label low (leb-true _ _ t) (rw (q, t) at h))
     (λ t. cases-of (leb n (e .target .value)) (λ u. target low (leb-false _ _ t) (leb-true _ _ u) (rw (q, t, u) at h))
-    (λ u. let all : inside n m (values e) ≡ true = rw (lt-ltb (e .source .value) n low, lt-ltb (e .label .value) m (leb-false _ _ t), lt-ltb (e .target .value) n (leb-false _ _ u)) in
-    order-faulty n m before e f all (rw (q, t, u) at h))))
+    (λ u. order-faulty n m before e f (fields-inside n m e q t u) (rw (q, t, u) at h))))
 
 -- ---- the first fault of a file's edges
 
@@ -102,33 +102,26 @@ module _ (P : Profile) (file : List ℕ) (n m : ℕ) where
     pub clear : firstFault n m before (placedFrom P file at index) ≡ none
     pub fault : Faulty n m (edgeBefore P file before at index) (placedAt P file (at + edgeBits P * index)) f
 
-  -- the first edge's own fault, or the first fault of those behind it
-  first-by : (before : Option Edge) (at e : ℕ) (f : Fault) (o : Option Fault) → edgeFault n m before (placedAt P file at) ≡ o →
-      orElse o (firstFault n m (some (values (placedAt P file at))) (placedFrom P file (at + edgeBits P) e)) ≡ some f →
-      (firstFault n m (some (values (placedAt P file at))) (placedFrom P file (at + edgeBits P) e) ≡ some f → FirstOf (some (values (placedAt P file at))) (at + edgeBits P) e f) →
-      FirstOf before at (suc e) f
+  pub first-of : (before : Option Edge) (at e : ℕ) (f : Fault) → firstFault n m before (placedFrom P file at e) ≡ some f → FirstOf before at e f
   unfolding placedFrom firstFault
-  first-by before at e f (some g) q h later = record {
-    index = 0;
-    inside = omega arith;
-    clear = refl;
-    fault = rw (mul-zero (edgeBits P), add-zero at) (edge-faulty n m before (placedAt P file at) f (q ∙ h));
-  }
-  first-by before at e f none q h later =
-      let r = later h in
+  first-of before at zero f h = impossible cc
+  first-of before at (suc e) f h =
+      let edge = placedAt P file at in
+      else-cases (edgeFault n m before edge) _ f h
+      (λ q. record {
+        index = 0;
+        inside = omega arith;
+        clear = refl;
+        fault = rw (mul-zero (edgeBits P), add-zero at) (edge-faulty n m before edge f q);
+      })
+      (λ q rest. let r = first-of (some (values edge)) (at + edgeBits P) e f rest in
       let k : at + edgeBits P + edgeBits P * r .index ≡ at + edgeBits P * suc (r .index) = omega (arith, mul-suc (edgeBits P) (r .index)) in
       record {
         index = suc (r .index);
         inside = omega (arith, r .inside);
         clear = rw q (r .clear);
         fault = rw (← before-next P file before at (r .index), ← k) (r .fault);
-      }
-
-  pub first-of : (before : Option Edge) (at e : ℕ) (f : Fault) → firstFault n m before (placedFrom P file at e) ≡ some f → FirstOf before at e f
-  unfolding placedFrom firstFault
-  first-of before at zero f h = impossible cc
-  first-of before at (suc e) f h =
-      first-by before at e f (edgeFault n m before (placedAt P file at)) refl h (first-of (some (values (placedAt P file at))) (at + edgeBits P) e f)
+      })
 
 -- ---- what a refusal names
 

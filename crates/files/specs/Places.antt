@@ -2,7 +2,7 @@
 -- or of an observation, or 0.
 -- Assumes nothing.
 use Prim.Native.Nat.{ℕ, suc, _+_, _<_}
-use mathlib.Core.Path.{_≡_, refl, _∙_}
+use mathlib.Core.Path.{_≡_, refl}
 use mathlib.Core.Bool.{Bool, true, false}
 use mathlib.Core.List.{List, [], _∷_}
 use mathlib.Core.Option.{Option, none, some}
@@ -21,7 +21,8 @@ use Rattle.layout.specs.declared.edge.Placed.{Placed}
 use Rattle.layout.specs.Layout.{large, headerBits, edgeBits, edgesBegin}
 use Rattle.layout.specs.Contents.{statesIn, labelsIn, countIn, placedAt, placedIn}
 use Rattle.layout.proofs.Bounds.{large-usable, states-high}
-use Rattle.edges.specs.Faults.{listedAt, listedFrom, Fault, faulty, edgeFault, orElse, firstFault, edgesThen}
+use Rattle.edges.specs.Faults.{listedAt, listedFrom, Fault, faulty, edgeFault, firstFault, edgesThen}
+use Rattle.edges.proofs.Tests.{else-cases}
 use Rattle.files.specs.Files.{fileTests, checkOf}
 use Rattle.files.specs.Faulty.{Faulty, source, label, target, order, repeated, edge-faulty, fault-is, first-of}
 
@@ -75,18 +76,13 @@ small-edges none next h k = k
 small-edges (some f) next h k = let s = h f refl in small-at (f .number) (f .place) (omega (arith, s .0)) (s .1)
 
 -- the place of a list's fault is the index of an edge
-listed-by : (n m i : ℕ) (before : Option Edge) (d : Edge) (es : List Edge) (f : Fault) (o : Option Fault) → edgeFault n m before (listedAt i d) ≡ o →
-    orElse o (firstFault n m (some d) (listedFrom (suc i) es)) ≡ some f →
-    (firstFault n m (some d) (listedFrom (suc i) es) ≡ some f → SmallFault (suc i + length es) f) → SmallFault (i + length (d ∷ es)) f
-listed-by n m i before d es f (some g) q h later =
-    faulty-small n m (i + length (d ∷ es)) before (listedAt i d) f (omega arith) (omega arith) (omega arith) (edge-faulty n m before (listedAt i d) f (q ∙ h))
-listed-by n m i before d es f none q h later = let r = later h in (r .0, omega (arith, r .1))
-
 pub listed-small : (n m i : ℕ) (before : Option Edge) (es : List Edge) (f : Fault) → firstFault n m before (listedFrom i es) ≡ some f → SmallFault (i + length es) f
 unfolding firstFault listedFrom
 listed-small n m i before [] f e = impossible cc
 listed-small n m i before (d ∷ es) f e =
-    listed-by n m i before d es f (edgeFault n m before (listedAt i d)) refl e (listed-small n m (suc i) (some d) es f)
+    else-cases (edgeFault n m before (listedAt i d)) _ f e
+    (λ q. faulty-small n m (i + length (d ∷ es)) before (listedAt i d) f (omega arith) (omega arith) (omega arith) (edge-faulty n m before (listedAt i d) f q))
+    (λ q rest. let r = listed-small n m (suc i) (some d) es f rest in (r .0, omega (arith, r .1)))
 
 -- ---- of a file
 

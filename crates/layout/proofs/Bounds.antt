@@ -94,6 +94,10 @@ module _ (P : Profile) (ok : Usable P) where
   pub edges-high : (e : ℕ) → e ≤ 65536 → edgeBits P * e ≤ 1572864
   edges-high e h = mul-le-mul edge-high h
 
+  -- where edge i begins, if the first begins at `at`
+  pub place-high : (at i : ℕ) → at ≤ 2096 → i ≤ 65536 → at + edgeBits P * i ≤ 1574960
+  place-high at i h l = omega (arith, edges-high i l)
+
   pub file-high : (n e : ℕ) → n ≤ 256 → e ≤ 65536 → fileBits P n e ≤ 1574960
   unfolding fileBits
-  file-high n e h l = omega (arith, begin-high n h, edges-high e l)
+  file-high n e h l = place-high (edgesBegin P n) e (begin-high n h) l

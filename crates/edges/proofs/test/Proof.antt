@@ -11,7 +11,7 @@ use Rattle.layout.specs.Contents.{values}
 use Rattle.layout.specs.Code.{edgeOf}
 use Rattle.edges.specs.Faults.{orderFault, edgeFault}
 use Rattle.edges.specs.Walk.{rankOf}
-use Rattle.edges.proofs.Tests.{rank-less, rank-same, rank-more}
+use Rattle.edges.proofs.Tests.{order-decides, rank-less, rank-same, rank-more}
 use Rattle.edges.proofs.test.Statement.{statement}
 use Rattle.edges.proofs.test.Tie as tie
 
@@ -40,11 +40,10 @@ abbrev edge : tie.Else3 → Placed
 edge c = start c .args .edge
 
 by-order : (c : tie.Else3) (before : Option Edge) → edgeFault (start c .args .n) (start c .args .m) before (edge c) ≡ orderFault before (edge c)
-unfolding edgeFault
 by-order c before =
     let e2 = c .before .before in
     let e1 = e2 .before .before in
-    rw (lt-leb _ _ (e1 .if1 .left), lt-leb _ _ (e2 .if2 .left), lt-leb _ _ (c .if3 .left))
+    order-decides _ _ before (edge c) (e1 .if1 .left) (e2 .if2 .left) (c .if3 .left)
 
 rank-requires : tie.Need-rank-requires
 rank-requires c κs = rw (c .bare .ensures) (start (c .before) .pre)

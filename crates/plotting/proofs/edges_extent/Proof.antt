@@ -11,7 +11,7 @@ use Rattle.meaning.specs.Filter as meaning
 use Rattle.layout.specs.Layout.{edgeBits}
 use Rattle.layout.specs.Contents.{placedFrom, edgeAt, edgesFrom}
 use Rattle.layout.specs.Code.{Small}
-use Rattle.layout.proofs.Bounds.{edges-high}
+use Rattle.layout.proofs.Bounds.{place-high}
 use Rattle.layout.proofs.EdgeLists.{bare-read}
 use Rattle.drawing.specs.Profile.{edgeLine, edgeLines, larger, labelsOf}
 use Rattle.plotting.proofs.Laws.{next-place, edge-lines-longer, labels-longer}
@@ -34,7 +34,7 @@ near : (c : tie.In-loop Inv-loop μ-loop) → c .before .loop .at ≤ 1574960
 near c =
     let loop = c .before .loop in
     let start = c .before .before .before in
-    omega (arith, loop .inv .1, edges-high (start .args .p) (start .pre .0) (loop .i) (omega (arith, loop .inv .0, start .pre .2)), start .pre .1)
+    omega (arith, loop .inv .1, place-high (start .args .p) (start .pre .0) (start .args .begin) (loop .i) (start .pre .1) (omega (arith, loop .inv .0, start .pre .2)))
 
 read-requires : tie.Need-read-requires Inv-loop μ-loop
 read-requires c κs = (c .before .before .before .pre .0, omega (arith, near c))

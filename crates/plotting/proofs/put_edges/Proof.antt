@@ -14,7 +14,7 @@ use Rattle.text.proofs.Laws.{same, both}
 use Rattle.layout.specs.Layout.{edgeBits}
 use Rattle.layout.specs.Contents.{placedFrom, edgeAt, edgesFrom}
 use Rattle.layout.specs.Code.{edgeOf}
-use Rattle.layout.proofs.Bounds.{edges-high}
+use Rattle.layout.proofs.Bounds.{place-high}
 use Rattle.layout.proofs.EdgeLists.{bare-read}
 use Rattle.drawing.specs.Profile.{edgeLine, edgeLines}
 use Rattle.plotting.proofs.Laws.{next-place, edge-lines-more, edge-lines-fit}
@@ -39,7 +39,7 @@ near : (c : tie.In-loop Inv-loop μ-loop) → c .before .loop .bit ≤ 1574960
 near c =
     let loop = c .before .loop in
     let start = c .before .before .before .before in
-    omega (arith, loop .inv .1, edges-high (start .args .p) (start .pre .0) (loop .i) (omega (arith, loop .inv .0, start .pre .2)), start .pre .1)
+    omega (arith, loop .inv .1, place-high (start .args .p) (start .pre .0) (start .args .first) (loop .i) (start .pre .1) (omega (arith, loop .inv .0, start .pre .2)))
 
 read-requires : tie.Need-read-requires Inv-loop μ-loop
 read-requires c κs = (c .before .before .before .before .pre .0, omega (arith, near c))

@@ -13,7 +13,7 @@ use Rattle.layout.specs.declared.Profile.{Profile}
 use Rattle.layout.specs.Layout.{edgeBits, flat}
 use Rattle.layout.specs.Contents.{placedFrom, edgesFrom}
 use Rattle.layout.specs.Code.{edgeOf, Small}
-use Rattle.layout.proofs.Bounds.{edges-high}
+use Rattle.layout.proofs.Bounds.{place-high}
 use Rattle.layout.proofs.EdgeLists.{length-flat, length-edges, edges-more, bare-read, store-edge}
 use Rattle.edges.specs.declared.Cursor.{Cursor}
 use Rattle.unpacking.proofs.get_edges.Statement.{statement}
@@ -41,7 +41,7 @@ near : (c : tie.At-loop Inv-loop μ-loop) → (c .loop .cursor .place < 2 ^ 63) 
 near c =
     let start = c .before .before .before .before in
     let pre = start .pre in (
-      omega (arith, c .loop .inv .placed, c .loop .inv .inside, pre .begin, edges-high (start .args .p) (pre .usable) (c .loop .cursor .index) (omega (arith, c .loop .inv .inside, pre .few))),
+      omega (arith, c .loop .inv .placed, place-high (start .args .p) (pre .usable) (start .args .at) (c .loop .cursor .index) (pre .begin) (omega (arith, c .loop .inv .inside, pre .few))),
       omega (arith, c .loop .inv .inside, pre .few),
     )
 
