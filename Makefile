@@ -2,6 +2,7 @@
 FILE ?= examples/k.filter
 PREFIX ?= /usr/local
 TIME ?= 600
+ARCHIVE := target/lib/libpierhollow.a
 
 .PHONY: run test lib programs tool install bench soak
 
@@ -13,10 +14,9 @@ run:
 test:
 	@.ci/run
 
-# The archive for C, target/staticlib/libpierhollow.a; include/pierhollow.h goes with it.
+# The archive for C, target/lib/libpierhollow.a; include/pierhollow.h goes with it.
 lib:
-	@mkdir -p target
-	@.ci/progress target/lib.log rt staticlib pierhollow
+	@.ci/lib
 
 programs:
 	@mkdir -p target
@@ -28,15 +28,15 @@ X86_64_CC := $(if $(filter x86_64,$(shell uname -m)),gcc,x86_64-linux-gnu-gcc -s
 tool: lib
 	@$(MAKE) --no-print-directory target/bin/pierhollow
 
-target/bin/pierhollow: $(wildcard tool/*.c tool/*.h) include/pierhollow.h target/staticlib/libpierhollow.a
+target/bin/pierhollow: $(wildcard tool/*.c tool/*.h) include/pierhollow.h $(ARCHIVE)
 	@mkdir -p target/bin
-	$(X86_64_CC) -std=c99 -D_POSIX_C_SOURCE=200809L -O2 -Wall -Wextra -Werror -pedantic -Iinclude tool/*.c target/staticlib/libpierhollow.a -o $@
+	$(X86_64_CC) -std=c99 -D_POSIX_C_SOURCE=200809L -O2 -Wall -Wextra -Werror -pedantic -Iinclude tool/*.c $(ARCHIVE) -o $@
 
 # Programs and archive are x86-64; PREFIX and DESTDIR say where they go.
 install: lib programs tool
 	install -d "$(DESTDIR)$(PREFIX)/bin" "$(DESTDIR)$(PREFIX)/lib" "$(DESTDIR)$(PREFIX)/include" "$(DESTDIR)$(PREFIX)/share/man/man1"
 	install -m 755 target/bin/pierhollow target/bin/reduce target/bin/shrink target/bin/trace "$(DESTDIR)$(PREFIX)/bin"
-	install -m 644 target/staticlib/libpierhollow.a "$(DESTDIR)$(PREFIX)/lib"
+	install -m 644 $(ARCHIVE) "$(DESTDIR)$(PREFIX)/lib"
 	install -m 644 include/pierhollow.h "$(DESTDIR)$(PREFIX)/include"
 	install -m 644 man/pierhollow.1 man/reduce.1 man/shrink.1 man/trace.1 "$(DESTDIR)$(PREFIX)/share/man/man1"
 

@@ -19,6 +19,12 @@ size_t random_below(uint64_t *seed, size_t limit)
     return (size_t)((random_next(seed) >> 16) % limit);
 }
 
+static void give_up(const char *why)
+{
+    fprintf(stderr, "families: %s\n", why);
+    exit(2);
+}
+
 static void begin(struct filter *f, size_t n, size_t m)
 {
     memset(f, 0, sizeof *f);
@@ -40,55 +46,52 @@ static void colour_at_random(struct filter *f, size_t colours, uint64_t *seed)
         f->colours[s] = (uint8_t)random_below(seed, colours);
 }
 
-void make_chain(struct filter *f, size_t n, uint64_t seed)
+void make_bare(struct filter *f, size_t n, size_t m, uint64_t seed)
 {
     (void)seed;
-    begin(f, n, 1);
-    f->colours[n - 1] = 1;
-    for (size_t s = 0; s < n; s++)
-        add_edge(f, s, 0, (s + 1) % n);
+    begin(f, n, m);
 }
 
-void make_full_chain(struct filter *f, size_t n, uint64_t seed)
+void make_chain(struct filter *f, size_t n, size_t m, uint64_t seed)
 {
     (void)seed;
-    begin(f, n, MOST_LABELS);
+    begin(f, n, m);
     f->colours[n - 1] = 1;
     for (size_t s = 0; s < n; s++) {
-        for (size_t y = 0; y < MOST_LABELS - 1; y++)
-            add_edge(f, s, y, y * n / MOST_LABELS);
-        add_edge(f, s, MOST_LABELS - 1, (s + 1) % n);
+        for (size_t y = 0; y < m - 1; y++)
+            add_edge(f, s, y, y * n / m);
+        add_edge(f, s, m - 1, (s + 1) % n);
     }
 }
 
-void make_dense(struct filter *f, size_t n, uint64_t seed)
+void make_dense(struct filter *f, size_t n, size_t m, uint64_t seed)
 {
-    begin(f, n, MOST_LABELS);
+    begin(f, n, m);
     colour_at_random(f, 4, &seed);
     for (size_t s = 0; s < n; s++)
-        for (size_t y = 0; y < MOST_LABELS; y++)
+        for (size_t y = 0; y < m; y++)
             add_edge(f, s, y, random_below(&seed, n));
 }
 
 /* A set of `count` different labels, a bit each. */
-static uint64_t some_labels(size_t count, uint64_t *seed)
+static uint64_t some_labels(size_t count, size_t m, uint64_t *seed)
 {
     uint64_t labels = 0;
     while (count > 0) {
-        uint64_t label = (uint64_t)1 << random_below(seed, MOST_LABELS);
+        uint64_t label = (uint64_t)1 << random_below(seed, m);
         count -= (labels & label) == 0;
         labels |= label;
     }
     return labels;
 }
 
-void make_sparse(struct filter *f, size_t n, uint64_t seed)
+void make_sparse(struct filter *f, size_t n, size_t m, uint64_t seed)
 {
-    begin(f, n, MOST_LABELS);
+    begin(f, n, m);
     colour_at_random(f, 2, &seed);
     for (size_t s = 0; s < n; s++) {
-        uint64_t labels = some_labels(4, &seed);
-        for (size_t y = 0; y < MOST_LABELS; y++)
+        uint64_t labels = some_labels(m < 16 ? m / 4 : 4, m, &seed);
+        for (size_t y = 0; y < m; y++)
             if (labels >> y & 1)
                 add_edge(f, s, y, random_below(&seed, n));
     }
@@ -106,12 +109,13 @@ void make_leftovers(struct filter *f, size_t n, size_t m, uint64_t seed)
     }
 }
 
-void make_crowd(struct filter *f, size_t n)
+void make_crowd(struct filter *f, size_t n, size_t m, uint64_t seed)
 {
-    begin(f, n, 8);
+    (void)seed;
+    begin(f, n, m);
     f->colours[n - 1] = 1;
     for (size_t s = 0; s + 1 < n; s++)
-        for (size_t y = 0; y < 8; y++)
+        for (size_t y = 0; y < m; y++)
             add_edge(f, s, y, s >> y & 1 ? n - 1 : (s + 1) % (n - 1));
 }
 
@@ -204,20 +208,18 @@ static size_t number_of(set *met, size_t *count, set states)
     for (size_t i = 0; i < *count; i++)
         if (met[i] == states)
             return i;
-    if (*count == MOST_STATES) {
-        fprintf(stderr, "families: more sets of states than a file holds\n");
-        exit(2);
-    }
+    if (*count == MOST_STATES)
+        give_up("more sets of states than a file holds");
     met[*count] = states;
     return (*count)++;
 }
 
-/* All sets that the first one leads to, numbered as first met. */
-static void track(struct filter *f, const struct world *world, set first, int if_no, int if_yes)
+/* All sets that the first one leads to, numbered as first met; there have to be n. */
+static void track(struct filter *f, const struct world *world, set first, int if_no, int if_yes, size_t n)
 {
     set met[MOST_STATES] = {first};
     size_t count = 1;
-    begin(f, 0, world->beams);
+    begin(f, n, world->beams);
     for (size_t source = 0; source < count; source++) {
         f->colours[source] = colour_of(world, met[source], if_no, if_yes);
         for (size_t beam = 0; beam < world->beams; beam++) {
@@ -226,33 +228,32 @@ static void track(struct filter *f, const struct world *world, set first, int if
                 add_edge(f, source, beam, number_of(met, &count, to));
         }
     }
-    f->n = count;
+    if (count != n)
+        give_up("not as many sets of states as there have to be");
 }
 
-void make_one_agent(struct filter *f, size_t beams)
+void make_one_agent(struct filter *f, size_t n, size_t beams, uint64_t seed)
 {
+    (void)seed;
     struct world world = {beams, beams, one_after, in_target_region};
-    track(f, &world, ~(set)0 >> (64 - beams), 0, 1);
+    track(f, &world, ~(set)0 >> (64 - beams), 0, 1, n);
 }
 
-void make_two_agents_together(struct filter *f, size_t beams)
+void make_two_agents_together(struct filter *f, size_t n, size_t beams, uint64_t seed)
 {
+    (void)seed;
     struct world world = {beams, beams * beams, two_after, together};
     set first = 0;
     for (size_t region = 0; region < beams; region++)
         first |= (set)1 << (region * beams + region);
-    track(f, &world, first, 1, 0);
+    track(f, &world, first, 1, 0, n);
 }
 
-void make_two_agents_anywhere(struct filter *f, size_t beams)
+void make_two_agents_anywhere(struct filter *f, size_t n, size_t beams, uint64_t seed)
 {
+    (void)seed;
     struct world world = {beams, beams * beams, two_after, together};
-    track(f, &world, ~(set)0 >> (64 - beams * beams), 1, 0);
-}
-
-void make_smallest(struct filter *f)
-{
-    begin(f, 1, 1);
+    track(f, &world, ~(set)0 >> (64 - beams * beams), 1, 0, n);
 }
 
 /* Where the edges of each state begin in the list; the entry behind the last state's is e. */

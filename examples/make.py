@@ -3,10 +3,10 @@
 
     make.py [--into FOLDER] [--shrink COMMAND] [--pictures]
 
-Each NAME.filter goes into FOLDER, which is the script's own unless said otherwise, and its drawing, NAME.dot, beside it.
-Nothing is reduced here: with --shrink, COMMAND is given each file on its standard input, and what it writes becomes
-NAME.reduced.filter, with NAME.reduced.dot beside it. With --pictures, Graphviz makes an .svg of each drawing that has few
-enough states.
+Each NAME.filter goes into FOLDER, which is the script's own unless said otherwise, and beside it its drawing, NAME.dot, and
+its pocket file, NAME.pocket, where there can be one. Nothing is reduced here: with --shrink, COMMAND is given each file on
+its standard input, and what it writes becomes NAME.reduced.filter, with its drawing and its pocket file beside it. With
+--pictures, Graphviz makes an .svg of each drawing that has few enough states.
 """
 
 import argparse
@@ -25,7 +25,21 @@ class Filter(NamedTuple):
     start: int = 0
 
 
-# The file: fields one after another, most significant bit first, then zero bits to the end of the byte.
+# The two files: fields one after another, most significant bit first, then zero bits to the end of the byte.
+
+
+class Widths(NamedTuple):
+    """In bits. A source and a target are as wide as the number of states, a label as that of labels."""
+
+    states: int
+    labels: int
+    start: int
+    edges: int
+    colour: int
+
+
+LARGE = Widths(states=8, labels=6, start=8, edges=15, colour=6)
+POCKET = Widths(states=4, labels=3, start=4, edges=8, colour=4)
 
 
 def field(value, bits):
@@ -34,17 +48,26 @@ def field(value, bits):
     return format(value, f"0{bits}b")
 
 
-def packed(made):
-    row = field(len(made.colours) - 1, 8) + field(made.labels - 1, 6)
-    row += field(made.start, 8) + field(len(made.edges), 15)
-    row += "".join(field(colour, 6) for colour in made.colours)
+def packed(made, widths):
+    row = field(len(made.colours) - 1, widths.states) + field(made.labels - 1, widths.labels)
+    row += field(made.start, widths.start) + field(len(made.edges), widths.edges)
+    row += "".join(field(colour, widths.colour) for colour in made.colours)
     for source, label, target in made.edges:
-        row += field(source, 8) + field(label, 6) + field(target, 8)
+        row += field(source, widths.states) + field(label, widths.labels) + field(target, widths.states)
     row += "0" * (-len(row) % 8)
     return bytes(int(row[at : at + 8], 2) for at in range(0, len(row), 8))
 
 
-def unpacked(file):
+def held(made, widths):
+    """Whether a file of these widths holds the filter. Where it holds states and labels, it holds start and edges too."""
+    return (
+        len(made.colours) <= 1 << widths.states
+        and made.labels <= 1 << widths.labels
+        and max(made.colours) < 1 << widths.colour
+    )
+
+
+def unpacked(file, widths):
     row = "".join(format(byte, "08b") for byte in file)
     at = 0
 
@@ -53,9 +76,11 @@ def unpacked(file):
         at += bits
         return int(row[at - bits : at], 2)
 
-    states, labels, start, edges = number(8) + 1, number(6) + 1, number(8), number(15)
-    colours = [number(6) for _ in range(states)]
-    return Filter(labels, colours, [(number(8), number(6), number(8)) for _ in range(edges)], start)
+    states, labels = number(widths.states) + 1, number(widths.labels) + 1
+    start, edges = number(widths.start), number(widths.edges)
+    colours = [number(widths.colour) for _ in range(states)]
+    of_edge = (widths.states, widths.labels, widths.states)
+    return Filter(labels, colours, [tuple(map(number, of_edge)) for _ in range(edges)], start)
 
 
 # The drawing: a line a state with its colour, then a line an edge with its label. It says neither the start nor the number
@@ -231,7 +256,9 @@ def shrunk(command, file):
 
 def write(into, name, file, pictures):
     (into / f"{name}.filter").write_bytes(file)
-    made = unpacked(file)
+    made = unpacked(file, LARGE)
+    if held(made, POCKET):
+        (into / f"{name}.pocket").write_bytes(packed(made, POCKET))
     drawing = drawn(made)
     if drawing is None:
         return
@@ -247,7 +274,7 @@ def main():
     parser.add_argument("--pictures", action="store_true", help="writes pictures of the drawings too, by Graphviz")
     wanted = parser.parse_args()
     for name, made in EXAMPLES.items():
-        file = packed(made)
+        file = packed(made, LARGE)
         write(wanted.into, name, file, wanted.pictures)
         if wanted.shrink:
             write(wanted.into, f"{name}.reduced", shrunk(wanted.shrink, file), wanted.pictures)

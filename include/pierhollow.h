@@ -6,15 +6,26 @@
  * could have, is told as 2^56 - 1. A refusal changes nothing that was lent to the call: no byte, no entry,
  * no value. Where a call accepts, it writes to the front of its rooms and leaves the rest of them as found.
  *
+ * A filter stands in one of two files, which differ in the widths of their fields. Nothing in a file says which of the
+ * two it is. Bits, and the most that a file holds:
+ *
+ *             states  labels  start  edges  colour  edge        most states  labels  colour  bytes
+ *   large          8       6      8     15       6  8 + 6 + 8           256      64      63  45253
+ *   pocket         4       3      4      8       4  4 + 3 + 4            16       8      15    187
+ *
+ * The calls whose names begin with pierhollow_pocket_ are for pocket files, to_large and to_pocket make of each file the
+ * other, and all others are for large files.
+ *
  * Of a file that is refused with 7, 8 or 9 the place is a bit's position: the first bit of the faulty field, counted
  * from 0, from the first byte on and within a byte from the highest bit. Byte place / 8 has it, place % 8 bits from
- * the left; a source or target has 8 bits, a label 6. pack and from_dot, which have no bits, give the edge's index,
- * counted from 0.
+ * the left; a source or target has 8 bits, a label 6, in a pocket file 4 and 3. Both packs and from_dot, which have no
+ * bits, give the edge's index, counted from 0.
  *
  * A room is a pointer and the number of its elements. NULL with 0 elements is an empty room, and nothing
  * else may be NULL. What is lent to be written must not overlap anything else that is lent to the same
  * call. The calls keep no state, allocate nothing and may be made from several threads at once. The archive
- * needs memcpy and memset of the C library and nothing else.
+ * needs memcpy and memset of the C library and nothing else. It has an object each for large files, for pocket files
+ * and for the two that turn one into the other, so that a program links only those that it calls.
  *
  * Values come back in an array of fixed length; each call says which value stands at which index.
  */
@@ -31,7 +42,7 @@ extern "C" {
 /* The numbers of refusal. */
 enum pierhollow_refusal {
     PIERHOLLOW_ACCEPTED = 0,
-    PIERHOLLOW_TOO_SHORT = 1,    /* fewer than 5 bytes */
+    PIERHOLLOW_TOO_SHORT = 1,    /* fewer than 5 bytes, of a pocket file 3 */
     PIERHOLLOW_START = 2,        /* start is n or more */
     PIERHOLLOW_EDGE_COUNT = 3,   /* e exceeds n times m */
     PIERHOLLOW_MISSING = 4,      /* fewer bytes than the file's length */
@@ -40,15 +51,18 @@ enum pierhollow_refusal {
     PIERHOLLOW_OUTSIDE = 7,      /* an edge's source or target is n or more, or its label m or more; place: the first such field */
     PIERHOLLOW_ORDER = 8,        /* an edge comes before the edge before it; place: the edge's source */
     PIERHOLLOW_REPEATED = 9,     /* an edge has source and label of the edge before it; place: the edge's source */
-    PIERHOLLOW_ANSWER_ROOM = 10, /* reduce: answer room shorter than the file; pack, from_dot, to_dot: shorter than what is written */
+    PIERHOLLOW_ANSWER_ROOM = 10, /* reduce: answer room shorter than the file; pack, from_dot, to_dot, to_large, to_pocket: shorter
+                                    than what is written */
     PIERHOLLOW_CLASS_ROOM = 11,  /* reduce: fewer class entries than n */
     PIERHOLLOW_ROOM = 12,        /* unpack: a room is too short; trace: more than 65,535 observations or a short room */
     PIERHOLLOW_OBSERVATION = 13, /* trace: an observation is m or more; place: the index of the first */
     PIERHOLLOW_LISTS = 14,       /* pack: not 1 to 256 colours, m not 1 to 64, a colour above 63, or edge bytes no multiple of 3;
+                                    pocket_pack: the same with 16, 8 and 15;
                                     from_dot: not 1 to 256 states, or a colour or a label above 63 */
-    PIERHOLLOW_DRAWING = 15      /* from_dot: text outside the profile; place: the length of the text's longest beginning that some
+    PIERHOLLOW_DRAWING = 15,     /* from_dot: text outside the profile; place: the length of the text's longest beginning that some
                                     text of the profile also has; to_dot: start is not 0, or m not the largest label plus one
                                     (without edges: not 1) */
+    PIERHOLLOW_POCKET = 16       /* to_pocket: n above 16, m above 8, or a colour above 15 */
 };
 
 /* The refusal's number in what a call returned; 0 for accepted. */
@@ -63,17 +77,22 @@ static inline uint64_t pierhollow_place(uint64_t returned)
     return returned / 256;
 }
 
-/* The longest filter file and the longest drawing of one, in bytes, and the most states and labels that a file has. */
+/* The longest large file and the longest drawing of one, in bytes, and the most states and labels that a large file has. */
 #define PIERHOLLOW_LONGEST_FILE 45253
 #define PIERHOLLOW_LONGEST_DRAWING 371230
 #define PIERHOLLOW_MOST_STATES 256
 #define PIERHOLLOW_MOST_LABELS 64
 
+/* The longest pocket file in bytes, and the most states and labels that it has. */
+#define PIERHOLLOW_POCKET_LONGEST_FILE 187
+#define PIERHOLLOW_POCKET_MOST_STATES 16
+#define PIERHOLLOW_POCKET_MOST_LABELS 8
+
 /* What the class list has for a state that the start cannot reach. */
 #define PIERHOLLOW_DROPPED 65535
 
 /*
- * Reads the numbers of a filter file.
+ * Reads the numbers of a large file.
  * values: 0 states (n), 1 labels (m), 2 start, 3 edges (e).
  */
 uint64_t pierhollow_check(const uint8_t *file, size_t file_length,
@@ -90,7 +109,7 @@ uint64_t pierhollow_unpack(const uint8_t *file, size_t file_length,
                            uint64_t values[4]);
 
 /*
- * Writes the file of a colour list, an edge list (three bytes an edge), m and a start.
+ * Writes the large file of a colour list, an edge list (three bytes an edge), m and a start.
  * values: 0 the file's length in bytes.
  */
 uint64_t pierhollow_pack(const uint8_t *colours, size_t colours_length,
@@ -110,7 +129,7 @@ uint64_t pierhollow_trace(const uint8_t *file, size_t file_length,
                           uint64_t values[2]);
 
 /*
- * Reduces a filter file: writes the reduced file, which is never longer than the original, and the new number of each of
+ * Reduces a large file: writes the reduced file, which is never longer than the original, and the new number of each of
  * the n states. States that the start cannot reach take no part: they keep no other states apart, the reduced file has
  * neither them nor their edges, and their new number is PIERHOLLOW_DROPPED. They count for the rooms: the answer room has as
  * many bytes as the file or more, the class list n entries or more.
@@ -123,10 +142,55 @@ uint64_t pierhollow_reduce(const uint8_t *file, size_t file_length,
                            uint64_t values[4]);
 
 /*
+ * Pocket files. Each call is that of the same name without pocket, with the pocket file's widths: what it reads and what it
+ * writes are pocket files, and rooms and values are as above.
+ */
+uint64_t pierhollow_pocket_check(const uint8_t *file, size_t file_length,
+                                 uint64_t values[4]);
+
+uint64_t pierhollow_pocket_unpack(const uint8_t *file, size_t file_length,
+                                  uint8_t *colours, size_t colours_length,
+                                  uint8_t *edges, size_t edges_length,
+                                  uint64_t values[4]);
+
+uint64_t pierhollow_pocket_pack(const uint8_t *colours, size_t colours_length,
+                                const uint8_t *edges, size_t edges_length,
+                                size_t m, size_t start,
+                                uint8_t *room, size_t room_length,
+                                uint64_t values[1]);
+
+uint64_t pierhollow_pocket_trace(const uint8_t *file, size_t file_length,
+                                 const uint8_t *observations, size_t observations_length,
+                                 uint8_t *colours, size_t colours_length,
+                                 uint64_t values[2]);
+
+uint64_t pierhollow_pocket_reduce(const uint8_t *file, size_t file_length,
+                                  uint8_t *answer, size_t answer_length,
+                                  uint16_t *classes, size_t classes_length,
+                                  uint64_t values[4]);
+
+/*
+ * Writes the large file of a pocket file's filter; to_pocket gives the pocket file back. Refusals: the file's own, then 10.
+ * values: 0 the large file's length in bytes.
+ */
+uint64_t pierhollow_to_large(const uint8_t *file, size_t file_length,
+                             uint8_t *room, size_t room_length,
+                             uint64_t values[1]);
+
+/*
+ * Writes the pocket file of a large file's filter; to_large gives the large file back. Refusals: the file's own, then 16
+ * with place 0, then 10.
+ * values: 0 the pocket file's length in bytes.
+ */
+uint64_t pierhollow_to_pocket(const uint8_t *file, size_t file_length,
+                              uint8_t *room, size_t room_length,
+                              uint64_t values[1]);
+
+/*
  * Drawings are texts of a narrow profile of Graphviz's DOT. The line "digraph {"; a line "3 [label=1];" a state, with its
  * colour, the states ascending from 0 with none missing; a line "0 -> 2 [label=1];" an edge; the line "}". Every line ends
  * in one newline byte; numbers are decimal, one to three digits, without leading zeros; spaces as shown. The start is state
- * 0, and m is the largest label plus one, or 1 without edges.
+ * 0, and m is the largest label plus one, or 1 without edges. The two calls read and write large files.
  */
 
 /*

@@ -10,24 +10,28 @@
 
 enum status { ACCEPTED = 0, REFUSED = 1, FAILED = 2 };
 
-static const char version[] = "pierhollow 4\n";
+static const char version[] = "pierhollow 5\n";
 
 static const char help[] =
-    "Usage: pierhollow COMMAND [-o FILE] [FILE]\n"
+    "Usage: pierhollow COMMAND [--pocket] [-o FILE] [FILE]\n"
     "Checks, draws, reduces and traces combinatorial filters.\n"
     "\n"
-    "  check [FILE]     print the states, labels, start and edges of a filter file\n"
-    "  from-dot [FILE]  write the filter file of a drawing\n"
-    "  to-dot [FILE]    write the drawing of a filter file\n"
-    "  reduce [FILE]    print states, reduced states, colours and rounds, then each\n"
-    "                   state and its new number, - for one that cannot be reached\n"
-    "  shrink [FILE]    write the reduced filter file\n"
-    "  trace FILE       trace the bytes of standard input, each an observation\n"
+    "  check [FILE]      print the states, labels, start and edges of a filter file\n"
+    "  from-dot [FILE]   write the filter file of a drawing\n"
+    "  to-dot [FILE]     write the drawing of a filter file\n"
+    "  reduce [FILE]     print states, reduced states, colours and rounds, then each\n"
+    "                    state and its new number, - for one that cannot be reached\n"
+    "  shrink [FILE]     write the reduced filter file\n"
+    "  to-pocket [FILE]  write the pocket file of a filter file\n"
+    "  to-large [FILE]   write the filter file of a pocket file\n"
+    "  trace FILE        trace the bytes of standard input, each an observation\n"
     "\n"
-    "  -o FILE          write FILE, whole or not at all, not standard output\n"
-    "  --help           print this and end\n"
-    "  --version        print the version and end\n"
-    "  --               what follows is no option\n"
+    "  --pocket          check, reduce, shrink and trace a pocket file, of at most\n"
+    "                    16 states; shrink then writes one\n"
+    "  -o FILE           write FILE, whole or not at all, not standard output\n"
+    "  --help            print this and end\n"
+    "  --version         print the version and end\n"
+    "  --                what follows is no option\n"
     "\n"
     "Without FILE, and for -, standard input is read. The status is 0 for accepted,\n"
     "1 for refused (standard error has the number, the place and what it means),\n"
@@ -39,6 +43,7 @@ struct request {
     const struct command *command;
     const char *file;
     const char *output;
+    bool pocket;
 };
 
 static bool misused(const char *what, const char *argument)
@@ -74,6 +79,14 @@ static bool take_output(struct request *request, const char *argument)
     return true;
 }
 
+static bool take_pocket(struct request *request)
+{
+    if (request->pocket)
+        return misused("--pocket a second time", NULL);
+    request->pocket = true;
+    return true;
+}
+
 static bool complete(const struct request *request)
 {
     if (request->command == NULL)
@@ -81,6 +94,8 @@ static bool complete(const struct request *request)
     /* Standard input has the observations. */
     if (request->command->takes_observations && names_a_stream(request->file))
         return misused("this command needs a file", request->command->name);
+    if (request->pocket && !request->command->takes_pocket)
+        return misused("this command takes no --pocket", request->command->name);
     return true;
 }
 
@@ -105,6 +120,8 @@ static enum wanted read_arguments(char **arguments, struct request *request)
             return VERSION;
         else if (strcmp(argument, "-o") == 0)
             taken = take_output(request, *++arguments);
+        else if (strcmp(argument, "--pocket") == 0)
+            taken = take_pocket(request);
         else
             taken = misused("unknown option", argument);
         if (!taken)
@@ -115,7 +132,8 @@ static enum wanted read_arguments(char **arguments, struct request *request)
 
 static bool read_inputs(const struct request *request, struct work *work)
 {
-    size_t most = request->command->reads_a_drawing ? SIZE_MAX : MOST_OF_A_FILE;
+    /* Of a file one byte more than the longest has, so that too many are seen. */
+    size_t most = work->profile == NULL ? SIZE_MAX : work->profile->longest_file + 1;
     return read_from(request->file, most, &work->input) &&
            (!request->command->takes_observations || read_from(NULL, MOST_OBSERVATIONS, &work->observations));
 }
@@ -126,7 +144,7 @@ static enum status run(const struct request *request, struct work *work)
         return FAILED;
     uint64_t returned = request->command->run(work);
     if (returned != 0) {
-        tell_refusal(returned, &work->input, request->command->reads_a_drawing);
+        tell_refusal(returned, &work->input, work->profile);
         return REFUSED;
     }
     return write_to(request->output, work->output.at, work->output.length) ? ACCEPTED : FAILED;
@@ -134,7 +152,7 @@ static enum status run(const struct request *request, struct work *work)
 
 static enum status run_and_free(const struct request *request)
 {
-    struct work work = {{NULL, 0, 0}, {NULL, 0, 0}, {NULL, 0, 0}};
+    struct work work = {.profile = request->pocket ? &pocket : request->command->reads};
     enum status status = run(request, &work);
     free(work.input.at);
     free(work.observations.at);
@@ -149,7 +167,7 @@ static enum status show(const char *text)
 
 int main(int argc, char **argv)
 {
-    struct request request = {NULL, NULL, NULL};
+    struct request request = {.command = NULL};
     /* A reader that is gone and a file that may not grow are failed writes like others. */
     signal(SIGPIPE, SIG_IGN);
     signal(SIGXFSZ, SIG_IGN);

@@ -31,32 +31,37 @@ static size_t line_of_edge(const struct bytes *drawing, uint64_t edge)
     return position_of(drawing, first).line + (size_t)edge;
 }
 
-/* A field of an edge of a filter file: the edge's index, what the field is, and what it is to name. */
+/* A field of an edge of a file: the edge's index, what the field is, and what it is to name. */
 struct field {
     uint64_t edge;
     const char *is;
     const char *of;
 };
 
-/* The field whose first bit this is. The file's first field holds the number of states less one; before the edges stand 37 bits and
- * 6 of each state's colour, and an edge has 22: 8 of its source, 6 of its label, 8 of its target. */
-static struct field field_at(const struct bytes *file, uint64_t bit)
+/* The field stands at the front of the first byte, and holds one less. */
+static uint64_t states_of(const struct bytes *file, const struct profile *profile)
 {
-    uint64_t states = (uint64_t)file->at[0] + 1;
-    uint64_t of_edges = bit - 37 - 6 * states;
-    struct field field = {of_edges / 22, "source", "state"};
-    if (of_edges % 22 == 8)
-        field = (struct field){of_edges / 22, "label", "label"};
-    else if (of_edges % 22 == 14)
+    return (uint64_t)(file->at[0] >> (8 - profile->states)) + 1;
+}
+
+/* The field whose first bit this is: behind header and colours stand the edges, each of source, label and target. */
+static struct field field_at(const struct bytes *file, const struct profile *profile, uint64_t bit)
+{
+    uint64_t of_edges = bit - header_bits(profile) - profile->colour * states_of(file, profile);
+    uint64_t within = of_edges % edge_bits(profile);
+    struct field field = {of_edges / edge_bits(profile), "source", "state"};
+    if (within == profile->states) {
+        field.is = "label";
+        field.of = "label";
+    } else if (within == profile->states + profile->labels) {
         field.is = "target";
+    }
     return field;
 }
 
 static const char *meaning(unsigned number)
 {
     switch (number) {
-    case PIERHOLLOW_TOO_SHORT:
-        return "the file has fewer than 5 bytes";
     case PIERHOLLOW_START:
         return "the start is no state of the filter";
     case PIERHOLLOW_EDGE_COUNT:
@@ -81,6 +86,8 @@ static const char *meaning(unsigned number)
         return "there are not 1 to 256 states, or a colour or a label is above 63";
     case PIERHOLLOW_DRAWING:
         return "no drawing says this: the start is not state 0, or no edge has the last label";
+    case PIERHOLLOW_POCKET:
+        return "no pocket file holds this: there are more than 16 states or 8 labels, or a colour is above 15";
     default:
         /* 10 and 11 are about rooms, and the rooms here are always long enough. */
         return "there are no words for this number here";
@@ -99,9 +106,9 @@ static void tell_edge(unsigned number, uint64_t edge, const struct bytes *drawin
     fprintf(stderr, "edge %" PRIu64 ", counted from 0, on line %zu: %s\n", edge, line_of_edge(drawing, edge), meaning(number));
 }
 
-static void tell_field(unsigned number, uint64_t bit, const struct bytes *file)
+static void tell_field(unsigned number, uint64_t bit, const struct bytes *file, const struct profile *profile)
 {
-    struct field field = field_at(file, bit);
+    struct field field = field_at(file, profile, bit);
     fprintf(stderr,
             "bit %" PRIu64 " is byte %" PRIu64 ", bit %" PRIu64 ", the %s of edge %" PRIu64
             " (all from 0, bits from the left): ",
@@ -117,17 +124,20 @@ static bool is_of_an_edge(unsigned number)
     return number >= PIERHOLLOW_OUTSIDE && number <= PIERHOLLOW_REPEATED;
 }
 
-void tell_refusal(uint64_t returned, const struct bytes *input, bool is_drawing)
+void tell_refusal(uint64_t returned, const struct bytes *input, const struct profile *profile)
 {
     unsigned number = pierhollow_number(returned);
     uint64_t place = pierhollow_place(returned);
+    bool is_drawing = profile == NULL;
     fprintf(stderr, "refused %u %" PRIu64 ": ", number, place);
     if (number == PIERHOLLOW_DRAWING && is_drawing)
         tell_outside_the_profile(input, place);
     else if (is_of_an_edge(number) && is_drawing)
         tell_edge(number, place, input);
     else if (is_of_an_edge(number))
-        tell_field(number, place, input);
+        tell_field(number, place, input, profile);
+    else if (number == PIERHOLLOW_TOO_SHORT)
+        fprintf(stderr, "the file has fewer than %u bytes\n", (header_bits(profile) + 7) / 8);
     else if (number == PIERHOLLOW_OBSERVATION)
         fprintf(stderr, "observation %" PRIu64 ", counted from 0: %s\n", place, meaning(number));
     else

@@ -2,9 +2,11 @@
 #ifndef REFUSALS_H
 #define REFUSALS_H
 
+#include "profiles.h"
 #include "streams.h"
 
-/* Says on standard error, in one line, what the library returned for what was read, a drawing or a filter file. */
-void tell_refusal(uint64_t returned, const struct bytes *input, bool is_drawing);
+/* Says on standard error, in one line, what the library returned for what was read: a file of the profile, or a drawing where that is
+   NULL. */
+void tell_refusal(uint64_t returned, const struct bytes *input, const struct profile *profile);
 
 #endif

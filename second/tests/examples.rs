@@ -108,7 +108,7 @@ fn the_script_makes_the_same_files_again() {
         .status()
         .expect("python3 can be started");
     assert!(status.success(), "make.py: {status}");
-    for ending in ["filter", "dot"] {
+    for ending in ["filter", "pocket", "dot"] {
         let made = files(&folder.path, ending);
         let here = files(&examples(), ending);
         assert!(made.keys().eq(here.keys()), "{ending}: {:?}", made.keys());
@@ -123,17 +123,28 @@ fn filter_of(name: &str, file: &[u8]) -> Filter {
     read(file).unwrap_or_else(|refusal| panic!("{name}.filter: {refusal:?}"))
 }
 
+/// The names of the filters that are so.
+fn those(are_so: impl Fn(&Filter) -> bool) -> Vec<String> {
+    let filters = files(&examples(), "filter").into_iter();
+    let so = filters.filter(|(name, file)| are_so(&filter_of(name, file)));
+    so.map(|(name, _)| name).collect()
+}
+
+fn names(ending: &str) -> Vec<String> {
+    files(&examples(), ending).into_keys().collect()
+}
+
 #[test]
 fn every_filter_that_can_be_drawn_is_drawn() {
-    let filters = files(&examples(), "filter");
-    let drawable = |(name, file): &(&String, &Vec<u8>)| can_be_drawn(&filter_of(name, file));
-    let drawable: Vec<&String> = filters
-        .iter()
-        .filter(drawable)
-        .map(|(name, _)| name)
-        .collect();
-    let drawings = files(&examples(), "dot");
-    assert_eq!(drawings.keys().collect::<Vec<_>>(), drawable);
+    assert_eq!(names("dot"), those(can_be_drawn));
+}
+
+#[test]
+fn every_filter_that_fits_has_a_pocket_file() {
+    let fits = |filter: &Filter| {
+        filter.n() <= 16 && filter.m <= 8 && filter.colours.iter().all(|&c| c <= 15)
+    };
+    assert_eq!(names("pocket"), those(fits));
 }
 
 /// Accepted, with these bytes at the front of the room and the rest as found.

@@ -173,10 +173,10 @@ fn the_refusals_of_a_trace_are_listed() {
     assert_eq!(listed("trace"), numbers.collect());
 }
 
-/// A command gives what the program of its name gives; what a drawing adds comes from none of them.
+/// A command gives what the program of its name gives; what a drawing and a pocket file add comes from none of them.
 #[test]
 fn the_refusals_of_the_command_are_listed() {
     let mut numbers: BTreeSet<u8> = PAGES.into_iter().flat_map(listed).collect();
-    numbers.extend([14, 15]);
+    numbers.extend([14, 15, 16]);
     assert_eq!(listed("pierhollow"), numbers);
 }

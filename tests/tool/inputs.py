@@ -9,7 +9,7 @@ import sys
 
 sys.path.insert(0, str(pathlib.Path(__file__).parents[2] / "examples"))
 sys.dont_write_bytecode = True
-from make import EXAMPLES, Filter, packed
+from make import EXAMPLES, LARGE, POCKET, Filter, held, packed
 
 
 def drawn(made):
@@ -24,11 +24,21 @@ def three_states(*edges):
     return Filter(2, [0, 1, 1], list(edges))
 
 
-def largest():
-    """As many states, labels and edges as there can be; colours and targets have as many digits as they can."""
-    edges = [(s, label, 100 + (7 * s + label) % 156) for s in range(256) for label in range(64)]
-    return Filter(64, [10 + state % 54 for state in range(256)], edges)
+def full(states, labels, colours, targets):
+    """As many edges as there can be, with these colours and targets one after another."""
+    edges = [(s, label, targets[(7 * s + label) % len(targets)]) for s in range(states) for label in range(labels)]
+    return Filter(labels, [colours[state % len(colours)] for state in range(states)], edges)
 
+
+def last_repeated(made):
+    """The last edge has the label of the edge before it."""
+    source, label, target = made.edges[-1]
+    return made._replace(edges=made.edges[:-1] + [(source, label - 1, target)])
+
+
+# The most that each file holds. In the large one colours and targets have as many digits as they can.
+LARGEST = full(256, 64, range(10, 64), range(100, 256))
+LARGEST_POCKET = full(16, 8, range(16), range(16))
 
 FAULTY = {
     "label-outside": three_states((0, 2, 1)),
@@ -39,15 +49,26 @@ FAULTY = {
     "label-before": three_states((0, 1, 2), (0, 0, 1)),
     "source-before": three_states((0, 0, 1), (2, 1, 0), (1, 1, 0)),
     "repeated": three_states((0, 0, 1), (0, 0, 2)),
-    "last-repeated": (lambda made: made._replace(edges=made.edges[:-1] + [(255, 62, 0)]))(largest()),
+    "last-repeated": last_repeated(LARGEST),
+    "last-repeated-pocket": last_repeated(LARGEST_POCKET),
+}
+
+# Each has one thing more than a pocket file holds.
+TOO_LARGE = {
+    "states-17": full(17, 8, range(16), range(17)),
+    "labels-9": full(16, 9, range(16), range(16)),
+    "colour-16": LARGEST_POCKET._replace(colours=[*range(15), 16]),
 }
 
 
 def main():
     folder = pathlib.Path(sys.argv[1])
-    for name, made in {**EXAMPLES, "largest": largest(), **FAULTY}.items():
-        (folder / f"{name}.filter").write_bytes(packed(made))
+    largest = {"largest": LARGEST, "largest-pocket": LARGEST_POCKET}
+    for name, made in {**EXAMPLES, **largest, **FAULTY, **TOO_LARGE}.items():
+        (folder / f"{name}.filter").write_bytes(packed(made, LARGE))
         (folder / f"{name}.dot").write_bytes(drawn(made))
+        if held(made, POCKET):
+            (folder / f"{name}.pocket").write_bytes(packed(made, POCKET))
 
 
 main()

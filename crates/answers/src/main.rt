@@ -7,7 +7,7 @@ ghost use lib.ListN.{length};
 
 // Makes the call and writes its answer and the strings behind it; whether there is such a call.
 fn make_call(head: Head, a: &[u8], b: &mut [u8], c: &mut [u8]) -> bool {
-    if head.call < 1 || 7 < head.call {
+    if head.call < 1 || 14 < head.call {
         return false;
     }
     cases::write_answer(calls::answer(head, a, b, c));

@@ -5,7 +5,8 @@
 // colours and the edges, c is the room, the two numbers are m and the start. 4, trace: a is the file, b the observations, c
 // the room for colours; its counts are 0 and 0 where all is traced, 1 and i where it stops at i. 5, reduce: a is the file, b
 // the answer room, c the class list, two bytes an entry; an odd last byte is no entry. 6, from_dot: a is the text, c the room.
-// 7, to_dot: a is the file, c the room.
+// 7, to_dot: a is the file, c the room. 8 to 12: calls 1 to 5 on a pocket file. 13, to_large, and 14, to_pocket: a is the file, c the
+// room.
 use cases::Answer;
 use cases::Head;
 use checking::Checked;
@@ -160,26 +161,82 @@ fn to_dot(file: &[u8], room: &mut [u8]) -> Answer {
     made(dot::to_dot(file, room))
 }
 
-fn reduce_into(file: &[u8], answer: &mut [u8], classes: &mut [u16]) -> Answer {
+fn pocket_check(file: &[u8]) -> Answer {
+    checked(checking::pocket_check(file))
+}
+
+fn pocket_unpack(file: &[u8], colours: &mut [u8], edges: &mut [u8]) -> Answer {
+    unpacked(unpacking::pocket_unpack(file, colours, edges))
+}
+
+fn pocket_pack(colours: &[u8], edges: &[u8], m: u64, start: u64, room: &mut [u8]) -> Answer {
+    packed(packing::pocket_pack(colours, edges, m as usize, start as usize, room))
+}
+
+fn pocket_trace(file: &[u8], observations: &[u8], colours: &mut [u8]) -> Answer {
+    traced(tracing::pocket_trace(file, observations, colours))
+}
+
+fn to_large(file: &[u8], room: &mut [u8]) -> Answer {
+    packed(converting::to_large(file, room))
+}
+
+fn to_pocket(file: &[u8], room: &mut [u8]) -> Answer {
+    packed(converting::to_pocket(file, room))
+}
+
+fn reduce_into(pocket: bool, file: &[u8], answer: &mut [u8], classes: &mut [u16]) -> Answer {
+    if pocket {
+        return reduced(reduction::pocket_reduce(file, answer, classes));
+    }
     reduced(reduction::reduce(file, answer, classes))
 }
 
 // The class list's entries go back to the bytes they came from.
-fn reduce_with(file: &[u8], answer: &mut [u8], bytes: &mut [u8], list: &mut [u16]) -> Answer
+fn reduce_with(
+    pocket: bool,
+    file: &[u8],
+    answer: &mut [u8],
+    bytes: &mut [u8],
+    list: &mut [u16],
+) -> Answer
     requires { ⌜ length (now list) ≤ 65536 ⌝ }
 {
-    let made = reduce_into(file, answer, list);
+    let made = reduce_into(pocket, file, answer, list);
     cases::write_entries(bytes, list);
     made
 }
 
-fn reduce(file: &[u8], answer: &mut [u8], bytes: &mut [u8]) -> Answer {
+fn reduce(pocket: bool, file: &[u8], answer: &mut [u8], bytes: &mut [u8]) -> Answer {
     let mut entries = cases::read_entries(bytes);
     let n = cases::entries_in(bytes);
-    reduce_with(file, answer, bytes, &mut entries[0..n])
+    reduce_with(pocket, file, answer, bytes, &mut entries[0..n])
 }
 
-// Makes one of the seven calls; what is none of the others is the fifth.
+// Makes one of the calls from 8 on; what is none of the others is the twelfth.
+fn pocket_answer(head: Head, a: &[u8], b: &mut [u8], c: &mut [u8]) -> Answer {
+    if head.call == 8 {
+        return pocket_check(a);
+    }
+    if head.call == 9 {
+        return pocket_unpack(a, b, c);
+    }
+    if head.call == 10 {
+        return pocket_pack(a, b, head.first, head.second, c);
+    }
+    if head.call == 11 {
+        return pocket_trace(a, b, c);
+    }
+    if head.call == 13 {
+        return to_large(a, c);
+    }
+    if head.call == 14 {
+        return to_pocket(a, c);
+    }
+    reduce(true, a, b, c)
+}
+
+// Makes one of the fourteen calls; below 8 what is none of the others is the fifth.
 pub fn answer(head: Head, a: &[u8], b: &mut [u8], c: &mut [u8]) -> Answer {
     if head.call == 1 {
         return check(a);
@@ -199,5 +256,8 @@ pub fn answer(head: Head, a: &[u8], b: &mut [u8], c: &mut [u8]) -> Answer {
     if head.call == 7 {
         return to_dot(a, c);
     }
-    reduce(a, b, c)
+    if 8 <= head.call {
+        return pocket_answer(head, a, b, c);
+    }
+    reduce(false, a, b, c)
 }

@@ -1,4 +1,4 @@
--- Only one answer meets the check call's contract, as the check of this crate reads it. Assumes nothing.
+-- Only one answer meets the check call's contract, of either file, as the check of this crate reads it. Assumes nothing.
 use mathlib.Core.Path.{_≡_, sym, ap, _∙_}
 use mathlib.Core.List.{[], _∷_}
 use Prim.Native.Nat.{ℕ}
@@ -16,6 +16,9 @@ use Rattle.checking.specs.Promise.{checkedOutcome}
 use Rattle.checking.proofs.check as check
 use Rattle.checking.proofs.check.Kinds as check-kinds
 use Rattle.checking.proofs.check.Reads as check-reads
+use Rattle.checking.proofs.pocket_check as pocket-check
+use Rattle.checking.proofs.pocket_check.Kinds as pocket-check-kinds
+use Rattle.checking.proofs.pocket_check.Reads as pocket-check-reads
 
 pub reading-one : (a b : Reading) → readingOutcome a ≡ readingOutcome b → a ≡ b
 reading-one a b e =
@@ -38,3 +41,8 @@ pub check-contract-one : (κs : Lfts 1) (a : ArgsD check.signature κs) (r₁ r�
     (s₁ s₂ : AtExit (endedOf 1 check-kinds.ps check-kinds.r) κs) →
     check-reads.Post κs a r₁ s₁ → check-reads.Post κs a r₂ s₂ → r₁ ≡ r₂
 check-contract-one κs a r₁ r₂ s₁ s₂ p₁ p₂ = checked-one r₁ r₂ (p₁ ∙ sym p₂)
+
+pub pocket-check-contract-one : (κs : Lfts 1) (a : ArgsD pocket-check.signature κs) (r₁ r₂ : ResD pocket-check.signature κs)
+    (s₁ s₂ : AtExit (endedOf 1 pocket-check-kinds.ps pocket-check-kinds.r) κs) →
+    pocket-check-reads.Post κs a r₁ s₁ → pocket-check-reads.Post κs a r₂ s₂ → r₁ ≡ r₂
+pocket-check-contract-one κs a r₁ r₂ s₁ s₂ p₁ p₂ = checked-one r₁ r₂ (p₁ ∙ sym p₂)

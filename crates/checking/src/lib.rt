@@ -7,7 +7,7 @@ use refusals::Kind;
 use refusals::Refusal;
 ghost use mathlib.Core.Path.{_≡_};
 ghost use Rattle.refusals.specs.Refusals.{onward, refusalOutcome};
-ghost use Rattle.layout.specs.Layout.{large};
+ghost use Rattle.layout.specs.Layout.{large, pocket};
 ghost use Rattle.layout.specs.Code.{Usable};
 ghost use Rattle.files.specs.Files.{headOf};
 ghost use Rattle.checking.specs.Promise.{checkedOutcome, CheckPromise};
@@ -22,6 +22,13 @@ pub fn check(file: &[u8]) -> Checked
     ensures { λ r. ⌜ CheckPromise large (now (file .entry)) r ⌝ }
 {
     check_as(layout::large(), headed(file), file)
+}
+
+// The same of a pocket file.
+pub fn pocket_check(file: &[u8]) -> Checked
+    ensures { λ r. ⌜ CheckPromise pocket (now (file .entry)) r ⌝ }
+{
+    check_as(layout::pocket(), pocket_headed(file), file)
 }
 
 // The same for any widths, behind the tests before the edges.
@@ -60,7 +67,14 @@ pub fn headed(file: &[u8]) -> Checked
     headed_as(layout::large(), file)
 }
 
-// The same for any widths. It has one caller, so that it is inlined there and the widths are constants.
+// The same of a pocket file.
+pub fn pocket_headed(file: &[u8]) -> Checked
+    ensures { λ r. ⌜ checkedOutcome r ≡ headOf pocket (now (file .entry)) ⌝ }
+{
+    headed_as(layout::pocket(), file)
+}
+
+// The same for any widths. In each archive for C it has one caller, so that it is inlined there and the widths are constants.
 fn headed_as(p: Profile, file: &[u8]) -> Checked
     requires { ⌜ Usable p ⌝ }
     ensures { λ r. ⌜ checkedOutcome r ≡ headOf p (now (file .entry)) ⌝ }

@@ -30,7 +30,7 @@ use Rattle.files.specs.Files.{checkOf, numbersIn}
 use Rattle.layout.proofs.Bounds.{states-high}
 use Rattle.refusals.proofs.Laws.{first-accepted, onward-accepted, promise-laid}
 use Rattle.files.specs.Tests.{Sound, check-sound, Writable, writable-in-order}
-use Rattle.files.specs.Written.{Holds, length-written, written-holds, length-filter, read-writable}
+use Rattle.files.specs.Written.{Holds, holds-filter, length-written, written-holds, length-filter, read-writable}
 use Rattle.tracing.specs.declared.Traced.{Traced}
 use Rattle.tracing.specs.declared.Traced.the-variants as traced
 use Rattle.tracing.specs.Answers.{rideOutcome}
@@ -85,10 +85,7 @@ module _ (P : Profile) (usable : Usable P) (file : List ℕ) (bytes : Bytes file
 
   -- the reduced file holds the reduced filter
   pub reduced-file-holds : filterIn P (reducedFile P file) ≡ reduced F
-  unfolding filterIn
-  reduced-file-holds =
-      let h = holds in
-      λ i. record { colours = h .colours-are i; labels = h .labels-are i; start = h .start-is i; edges = h .edges-are i }
+  reduced-file-holds = holds-filter P (reducedFile P file) (reduced F) holds
 
   -- it is accepted
   pub reduced-file-accepted : checkOf P (reducedFile P file) ≡ accepted (numbersIn P (reducedFile P file))

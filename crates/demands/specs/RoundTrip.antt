@@ -2,52 +2,40 @@
 -- First of the definitions, then of any answers and rooms that meet the two calls' promises.
 -- Assumes nothing.
 use mathlib.Core.Path.{_≡_, sym, ap, _∙_}
-use mathlib.Core.Bool.{true}
 use mathlib.Core.List.{List, [], _∷_}
 use Prim.Native.Nat.{ℕ, _*_, _/_, _%_, _≤_}
 use native.Mathlib.Omega.{arith}
 use lib.Dec.{eqb}
-use lib.ListN.{length, take, drop}
-use lib.Seq.{take-at}
-use borrow.Author.Tests.{eq-eqb, eqb-true}
+use lib.ListN.{length, take}
 use Rattle.bits.specs.Bits.{Bytes}
-use Rattle.meaning.specs.Filter.{inOrder}
 use Rattle.layout.specs.declared.Profile.{Profile}
 use Rattle.unpacking.specs.declared.Unpacked.{Unpacked}
 use Rattle.packing.specs.declared.Packed.{Packed}
-use Rattle.layout.specs.Layout.{flat, lengthOf, written, threes, fromLists}
+use Rattle.layout.specs.Layout.{flat, written, fromLists}
 use Rattle.layout.specs.Code.{Usable}
 use Rattle.layout.specs.Contents.{statesIn, labelsIn, startIn, countIn, coloursIn, edgesIn, filterIn}
 use Rattle.refusals.specs.Refusals.{accepted, laid}
 use Rattle.unpacking.specs.Promise.{unpackedOutcome, unpackOf, UnpackPromise, Rooms}
 use Rattle.packing.specs.Promise.{packedOutcome, packOf, PackPromise}
 use Rattle.files.specs.Files.{checkOf, numbersIn}
-use Rattle.layout.proofs.EdgeLists.{length-flat, threes-flat, flat-threes, length-threes}
-use Rattle.files.specs.Tests.{Sound, check-sound, sound-check, Written, writable-write}
+use Rattle.files.specs.Tests.{Sound, check-sound, sound-check, Written}
 use Rattle.refusals.proofs.Laws.{laid-front, promise-laid}
-use Rattle.packing.proofs.Calls.{pack-passed, whole-edges, count-listed, flat-listed}
+use Rattle.packing.proofs.Calls.{pack-accepts, pack-passed, whole-edges, count-listed, flat-listed}
 use Rattle.unpacking.proofs.Calls.{unpack-accepts, unpack-checked}
-use Rattle.files.specs.Written.{length-written, written-holds, written-sound, length-colours, length-edges-in, read-writable, read-back}
+use Rattle.files.specs.Written.{length-written, written-holds, written-sound, length-colours, length-flat-edges, length-read, read-writable, read-back, lists-filter}
 
 -- ---- of the definitions
 
 module _ (P : Profile) (ok : Usable P) where
-  -- the lists of an accepted file are the lists of the filter in it
-  unpacked-filter : (s : List ℕ) → fromLists (coloursIn P s) (flat (edgesIn P s)) (labelsIn P s) (startIn P s) ≡ filterIn P s
-  unfolding filterIn
-  unpacked-filter s = rw (threes-flat (edgesIn P s))
-
-  pub pack-unpacked : (s : List ℕ) (room : ℕ) → Bytes s → Sound P s → length s ≤ room →
+  pub pack-unpacked : (s : List ℕ) (room : ℕ) → Sound P s → length s ≤ room →
       packOf P (coloursIn P s) (flat (edgesIn P s)) (labelsIn P s) (startIn P s) room ≡ accepted (length s ∷ [])
-  unfolding packOf
-  pack-unpacked s room b h l =
-      let whole : eqb (length (flat (edgesIn P s)) % 3) 0 ≡ true = eq-eqb (length (flat (edgesIn P s)) % 3) 0 (rw (length-flat (edgesIn P s)) (omega arith)) in
-      let long : lengthOf P (filterIn P s) ≡ length s = sym (length-written P ok (filterIn P s) (read-writable P ok s h)) ∙ ap length (read-back P ok s h b) in
-      rw (whole, unpacked-filter s, writable-write P (filterIn P s) room (read-writable P ok s h) (omega arith), long)
+  unfolding filterIn
+  pack-unpacked s room h l =
+      rw (length-read P s h) at (pack-accepts P (filterIn P s) room (read-writable P ok s h) (omega (arith, length-read P s h)))
 
   pub bytes-unpacked : (s : List ℕ) → Bytes s → Sound P s →
       written P (fromLists (coloursIn P s) (flat (edgesIn P s)) (labelsIn P s) (startIn P s)) ≡ s
-  bytes-unpacked s b h = rw (unpacked-filter s) (read-back P ok s h b)
+  bytes-unpacked s b h = rw (lists-filter P s) (read-back P ok s h b)
 
   module _ (cs es : List ℕ) (m st room : ℕ) (vs : List ℕ) (h : packOf P cs es m st room ≡ accepted vs) where
     abbrev passed : Written P (fromLists cs es m st) (eqb (length es % 3) 0) room vs
@@ -87,9 +75,9 @@ module _ (P : Profile) (ok : Usable P) where
       let cs : take n (left .colours) ≡ coloursIn P file = ap (take n) (cc filled) ∙ laid-front (coloursIn P file) (found .colours) n (length-colours P file ∙ hn) in
       let es : take (3 * e) (left .edges) ≡ flat (edgesIn P file) =
       ap (take (3 * e)) (cc filled)
-      ∙ laid-front (flat (edgesIn P file)) (found .edges) (3 * e) (length-flat (edgesIn P file) ∙ ap (λ (k : ℕ). 3 * k) (length-edges-in P file ∙ he)) in
+      ∙ laid-front (flat (edgesIn P file)) (found .edges) (3 * e) (length-flat-edges P file ∙ ap (λ (k : ℕ). 3 * k) he) in
       let accepts : packOf P (take n (left .colours)) (take (3 * e) (left .edges)) m start (length room) ≡ accepted (length file ∷ []) =
-      rw (cs, es, ← hm, ← hs) (pack-unpacked P ok file (length room) b (q .0) l) in
+      rw (cs, es, ← hm, ← hs) (pack-unpacked P ok file (length room) (q .0) l) in
       let bytes : written P (fromLists (take n (left .colours)) (take (3 * e) (left .edges)) m start) ≡ file = rw (cs, es, ← hm, ← hs) (bytes-unpacked P ok file b (q .0)) in
       (hp .answer ∙ accepts, cc (promise-laid hp accepts) ∙ ap (λ (s : List ℕ). laid s room) bytes)
 

@@ -1,5 +1,5 @@
 -- What a file, and a filter that is to be written as one, are refused for: each test in its order, the first that holds decides
--- (document 01, "Numbers of refusal"). Document 01 speaks of the profile `large`.
+-- (document 01, "Numbers of refusal"). Document 01 speaks of the profile `large`, document 02 adds `pocket`.
 -- Assumes nothing.
 use Prim.Native.Nat.{ℕ, _*_, _^_}
 use mathlib.Core.Bool.{Bool, true, not, _&&_}
@@ -57,7 +57,8 @@ unfoldable pub allBelow : ℕ → List ℕ → Bool
 allBelow limit [] = true
 allBelow limit (x ∷ xs) = ltb x limit && allBelow limit xs
 
--- The widths can hold so many states, m labels and each colour: 1 to 256, 1 to 64 and at most 63 in the large file.
+-- The widths can hold so many states, m labels and each colour: 1 to 256, 1 to 64 and at most 63 in the large file, 1 to 16,
+-- 1 to 8 and at most 15 in the pocket file.
 unfoldable pub holdable : Profile → List ℕ → ℕ → Bool
 holdable P colours m =
     within 1 (2 ^ P .states) (length colours) && (within 1 (2 ^ P .labels) m && allBelow (2 ^ P .colour) colours)

@@ -1,26 +1,28 @@
 -- A refusal's number has at most two digits, and its place at most six: it is a bit's position in a file, the index of an edge in a list
 -- or of an observation, or 0.
 -- Assumes nothing.
-use Prim.Native.Nat.{ℕ, suc, _+_, _<_}
+use Prim.Native.Nat.{ℕ, suc, _+_, _*_, _≤_, _<_}
 use mathlib.Core.Path.{_≡_, refl}
 use mathlib.Core.Bool.{Bool, true, false}
 use mathlib.Core.List.{List, [], _∷_}
 use mathlib.Core.Option.{Option, none, some}
+use native.Mathlib.Nat.{mul-le-mul}
 use native.Mathlib.Omega.{arith}
 use lib.Dec.{ltb}
 use lib.ListN.{length}
 use borrow.Author.Tests.{ltb-true}
-use Rattle.bits.proofs.Reading.{field-lt}
 use Rattle.meaning.specs.Pick.{pick}
 use Rattle.meaning.specs.Cases.{impossible, and-left, and-right}
 use Rattle.meaning.specs.Filter.{Edge}
 use Rattle.refusals.specs.Refusals.{Outcome, accepted, refused, Test, firstOf, onward}
 use Rattle.refusals.proofs.Laws.{Passed, numbersBelow}
+use Rattle.layout.specs.declared.Profile.{Profile}
 use Rattle.layout.specs.declared.Field.{Field}
 use Rattle.layout.specs.declared.edge.Placed.{Placed}
-use Rattle.layout.specs.Layout.{large, headerBits, edgeBits, edgesBegin}
+use Rattle.layout.specs.Layout.{edgeBits, edgesBegin}
+use Rattle.layout.specs.Code.{Usable}
 use Rattle.layout.specs.Contents.{statesIn, labelsIn, countIn, placedAt, placedIn}
-use Rattle.layout.proofs.Bounds.{large-usable, states-high}
+use Rattle.layout.proofs.Bounds.{states-high, count-high, edge-high, begin-high}
 use Rattle.edges.specs.Faults.{listedAt, listedFrom, Fault, faulty, edgeFault, firstFault, edgesThen}
 use Rattle.edges.proofs.Tests.{else-cases}
 use Rattle.files.specs.Files.{fileTests, checkOf}
@@ -86,15 +88,19 @@ listed-small n m i before (d ∷ es) f e =
 
 -- ---- of a file
 
--- a file states at most 32,767 edges, behind at most 256 colours
-pub placed-small : (s : List ℕ) (f : Fault) → firstFault (statesIn large s) (labelsIn large s) none (placedIn large s) ≡ some f → SmallFault 1000000 f
-unfolding placedIn placedAt edgesBegin headerBits edgeBits countIn
-placed-small s f e =
-    let first = first-of large s (statesIn large s) (labelsIn large s) none (edgesBegin large (statesIn large s)) (countIn large s) f e in
-    let most = field-lt s 22 15 in
-    let few = states-high large large-usable s in
-    faulty-small _ _ 1000000 _ _ f (omega (arith, first .inside)) (omega (arith, first .inside)) (omega (arith, first .inside)) (first .fault)
+module _ (P : Profile) (ok : Usable P) where
+  -- a file states at most 32,767 edges, behind at most 256 colours
+  placed-small : (s : List ℕ) (f : Fault) → firstFault (statesIn P s) (labelsIn P s) none (placedIn P s) ≡ some f → SmallFault 1000000 f
+  unfolding placedIn placedAt
+  placed-small s f e =
+      let first = first-of P s (statesIn P s) (labelsIn P s) none (edgesBegin P (statesIn P s)) (countIn P s) f e in
+      let begin = begin-high P ok (statesIn P s) (states-high P ok s) in
+      let most : first .index ≤ 32767 = omega (arith, first .inside, count-high P ok s) in
+      let behind : edgeBits P * first .index ≤ 24 * 32767 = mul-le-mul (edge-high P ok) most in
+      let wide = ok .states≤ in
+      let high = ok .labels≤ in
+      faulty-small _ _ 1000000 _ _ f (omega (arith, begin, behind)) (omega (arith, begin, behind, wide)) (omega (arith, begin, behind, wide, high)) (first .fault)
 
-pub check-small : (s : List ℕ) → Small (checkOf large s)
-unfolding checkOf fileTests
-check-small s = small-first (fileTests large s) _ refl λ _. small-edges _ _ (placed-small s) (small-accepted _)
+  pub check-small : (s : List ℕ) → Small (checkOf P s)
+  unfolding checkOf fileTests
+  check-small s = small-first (fileTests P s) _ refl λ _. small-edges _ _ (placed-small s) (small-accepted _)

@@ -183,6 +183,29 @@ held P colours m h =
       colours-below = and-right (within 1 (2 ^ P .labels) m) _ rest;
     }
 
+-- what the widths can hold, and is in order, can be written
+held-in-order : (P : Profile) (F : Filter) → Held P (F .colours) (F .labels) → F .start < states F → length (F .edges) ≤ states F * F .labels →
+    firstFault (states F) (F .labels) none (listedFrom 0 (F .edges)) ≡ none → Writable P F
+held-in-order P F k starts few clear = record {
+  states-low = k .states-low;
+  states-high = k .states-high;
+  labels-low = k .labels-low;
+  labels-high = k .labels-high;
+  colours-below = k .colours-below;
+  start-in = starts;
+  count-in = few;
+  clear = clear;
+}
+
+-- a filter that one file has and the other can hold can be written there
+pub held-writable : (P Q : Profile) (F : Filter) → Writable P F → holdable Q (F .colours) (F .labels) ≡ true → Writable Q F
+held-writable P Q F w h = held-in-order Q F (held Q (F .colours) (F .labels) h) (w .start-in) (w .count-in) (w .clear)
+
+-- what can be written, the widths can hold
+pub writable-held : (P : Profile) (F : Filter) → Writable P F → holdable P (F .colours) (F .labels) ≡ true
+unfolding holdable
+writable-held P F w = simp (le-leb _ _ (w .states-low), le-leb _ _ (w .states-high), le-leb _ _ (w .labels-low), le-leb _ _ (w .labels-high), w .colours-below)
+
 pub record Written (P : Profile) (F : Filter) (whole : Bool) (room : ℕ) (vs : List ℕ) : Type 0 where
   pub writable : Writable P F
   pub is-whole : whole ≡ true
@@ -200,32 +223,14 @@ write-written P F whole room vs h =
     let a : hold && whole ≡ true = not-false (hold && whole) (t .0) in
     let k = held P (F .colours) (F .labels) (and-left hold whole a) in
     record {
-      writable = record {
-        states-low = k .states-low;
-        states-high = k .states-high;
-        labels-low = k .labels-low;
-        labels-high = k .labels-high;
-        colours-below = k .colours-below;
-        start-in = leb-false (states F) (F .start) (t .1 .0);
-        count-in = ltb-false (states F * F .labels) (length (F .edges)) (t .1 .1 .0);
-        clear = q .0;
-      };
+      writable =
+          held-in-order P F k (leb-false (states F) (F .start) (t .1 .0)) (ltb-false (states F * F .labels) (length (F .edges)) (t .1 .1 .0)) (q .0);
       is-whole = and-right hold whole a;
       roomy = ltb-false room (lengthOf P F) (r .0 .0);
       are = cc (r .1);
     }
 
 pub writable-write : (P : Profile) (F : Filter) (room : ℕ) → Writable P F → lengthOf P F ≤ room → writeOf P F true room ≡ accepted (lengthOf P F ∷ [])
-unfolding writeOf writeTests holdable
+unfolding writeOf writeTests
 writable-write P F room w l =
-    simp (
-      le-leb _ _ (w .states-low),
-      le-leb _ _ (w .states-high),
-      le-leb _ _ (w .labels-low),
-      le-leb _ _ (w .labels-high),
-      w .colours-below,
-      lt-leb _ _ (w .start-in),
-      le-ltb _ _ (w .count-in),
-      w .clear,
-      le-ltb _ _ l,
-    )
+    simp (writable-held P F w, lt-leb _ _ (w .start-in), le-ltb _ _ (w .count-in), w .clear, le-ltb _ _ l)

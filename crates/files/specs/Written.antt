@@ -5,7 +5,7 @@ use mathlib.Core.Bool.{true, false, _&&_}
 use mathlib.Core.List.{List, [], _∷_, _++_, map}
 use mathlib.Core.Option.{none}
 use Prim.Native.Nat.{ℕ, zero, suc, _+_, _*_, _-_, _^_, _≤_, _<_}
-use native.Mathlib.Nat.{zero-add, mul-comm, mul-le-mul, lt-of-lt-of-le, lt-of-le-of-lt, le-trans}
+use native.Mathlib.Nat.{zero-add, mul-comm, mul-le-mul, lt-of-lt-of-le, lt-of-le-of-lt, le-trans, le-refl}
 use native.Mathlib.Omega.{arith}
 use lib.Dec.{ltb}
 use lib.ListN.{length, getD, take, drop, replicate, length-replicate, drop-of-length-le}
@@ -21,12 +21,12 @@ use Rattle.pen.proofs.Parts.{cover}
 use Rattle.bits.proofs.Parts.{bytes-replicate}
 use Rattle.meaning.specs.Filter.{Edge, Filter, states, inside, each, inOrder}
 use Rattle.layout.specs.declared.Profile.{Profile}
-use Rattle.layout.specs.Layout.{large, headerBits, edgeBits, edgesBegin, fileBits, bytesFor, fileLength, fillBits, edgeWidths, fileWidths, flat, fileValues, lengthOf, written, threes}
+use Rattle.layout.specs.Layout.{large, pocket, headerBits, edgeBits, edgesBegin, fileBits, bytesFor, fileLength, fillBits, edgeWidths, fileWidths, flat, fileValues, lengthOf, written, threes, fromLists}
 use Rattle.layout.specs.Code.{Usable}
 use Rattle.layout.specs.Contents.{statesIn, labelsIn, startIn, countIn, coloursIn, placedIn, values, edgesFrom, edgesIn, filterIn, lengthIn, fillingIn}
 use Rattle.files.specs.Files.{checkOf, allBelow}
 use Rattle.refusals.specs.Refusals.{accepted, laid}
-use Rattle.layout.proofs.Bounds.{large-usable, states-low, labels-low, states-fit, labels-fit, states-pow, labels-pow}
+use Rattle.layout.proofs.Bounds.{states-low, labels-low, states-fit, labels-fit, states-pow, labels-pow}
 use Rattle.layout.proofs.EdgeLists.{fields-edges, length-edges, length-widths, total-edges, length-flat, threes-flat}
 use Rattle.meaning.specs.Cases.{and-left, and-right}
 use Rattle.edges.proofs.Tests.{listed-values, clear-elsewhere}
@@ -134,6 +134,11 @@ pub record Holds (P : Profile) (s : List ℕ) (F : Filter) : Type 0 where
   pub colours-are : coloursIn P s ≡ F .colours
   pub edges-are : edgesIn P s ≡ F .edges
   pub filled : fillingIn P s ≡ 0
+
+-- a file that holds F has F as the filter in it
+pub holds-filter : (P : Profile) (s : List ℕ) (F : Filter) → Holds P s F → filterIn P s ≡ F
+unfolding filterIn
+holds-filter P s F h = λ i. record { colours = h .colours-are i; labels = h .labels-are i; start = h .start-is i; edges = h .edges-are i }
 
 -- ---- what is written is read
 
@@ -294,6 +299,19 @@ pub length-filter-edges : (P : Profile) (s : List ℕ) → length (filterIn P s 
 unfolding filterIn
 length-filter-edges P s = length-edges-in P s
 
+pub length-flat-edges : (P : Profile) (s : List ℕ) → length (flat (edgesIn P s)) ≡ 3 * countIn P s
+length-flat-edges P s = length-flat (edgesIn P s) ∙ ap (λ (k : ℕ). 3 * k) (length-edges-in P s)
+
+-- an accepted file has the length of its filter's file
+pub length-read : (P : Profile) (s : List ℕ) → Sound P s → lengthOf P (filterIn P s) ≡ length s
+unfolding lengthOf lengthIn
+length-read P s h = rw (length-filter P s, length-filter-edges P s) (sym (h .long))
+
+-- the lists of a file are the lists of the filter in it
+pub lists-filter : (P : Profile) (s : List ℕ) → fromLists (coloursIn P s) (flat (edgesIn P s)) (labelsIn P s) (startIn P s) ≡ filterIn P s
+unfolding filterIn
+lists-filter P s = rw (threes-flat (edgesIn P s))
+
 module _ (P : Profile) (ok : Usable P) (s : List ℕ) (h : Sound P s) where
   colour-fits : (i : ℕ) → i < length (coloursIn P s) → getD (coloursIn P s) i 0 < 2 ^ P .colour
   unfolding coloursIn
@@ -339,18 +357,40 @@ module _ (P : Profile) (ok : Usable P) (s : List ℕ) (h : Sound P s) where
 pub checked-in-order : (P : Profile) → Usable P → (s vs : List ℕ) → checkOf P s ≡ accepted vs → inOrder (filterIn P s) ≡ true
 checked-in-order P ok s vs h = writable-in-order P (filterIn P s) (read-writable P ok s (check-sound P s vs h .0))
 
--- no file that is written, and none that is accepted, is longer than this: 256 states, 64 labels and an edge for each
-pub largest-length : (F : Filter) → Writable large F → lengthOf large F ≤ 45253
-unfolding lengthOf fileLength bytesFor fileBits edgesBegin headerBits edgeBits
-largest-length F w =
-    let most : states F * F .labels ≤ 256 * 64 = mul-le-mul (w .states-high) (w .labels-high) in
-    omega (arith, w .states-high, w .count-in, most)
+-- ---- wider files, and the longest
 
-pub largest-file : (s vs : List ℕ) → checkOf large s ≡ accepted vs → length s ≤ 45253
-unfolding lengthIn fileLength bytesFor fileBits edgesBegin headerBits edgeBits
-largest-file s vs h =
-    let q = check-sound large s vs h .0 in
-    let n : statesIn large s ≤ 256 = states-fit large large-usable s in
-    let m : labelsIn large s ≤ 64 = labels-fit large large-usable s in
-    let most : statesIn large s * labelsIn large s ≤ 256 * 64 = mul-le-mul n m in
-    omega (arith, q .long, q .count-in, most)
+-- a file that is at least as wide holds the filter too
+pub writable-wider : (P Q : Profile) (F : Filter) → P .states ≤ Q .states → P .labels ≤ Q .labels → P .colour ≤ Q .colour → Writable P F → Writable Q F
+writable-wider P Q F ns ms cs w = record {
+  states-low = w .states-low;
+  states-high = le-trans (w .states-high) (pow-mono ns);
+  labels-low = w .labels-low;
+  labels-high = le-trans (w .labels-high) (pow-mono ms);
+  colours-below = at-below (2 ^ Q .colour) (F .colours) (λ i l. lt-of-lt-of-le (below-at (2 ^ P .colour) (F .colours) (pow-pos (P .colour)) (w .colours-below) i) (pow-mono cs));
+  start-in = w .start-in;
+  count-in = w .count-in;
+  clear = w .clear;
+}
+
+-- The length of a file that has all states and all labels, and an edge for each state and label.
+abbrev pub longest : Profile → ℕ
+longest P = fileLength P (2 ^ P .states) (2 ^ P .states * 2 ^ P .labels)
+
+-- no file that is written, and none that is accepted, is longer
+pub largest-length : (P : Profile) (F : Filter) → Writable P F → lengthOf P F ≤ longest P
+unfolding lengthOf fileLength bytesFor fileBits edgesBegin
+largest-length P F w =
+    let most : states F * F .labels ≤ 2 ^ P .states * 2 ^ P .labels = mul-le-mul (w .states-high) (w .labels-high) in
+    let colours : P .colour * states F ≤ P .colour * 2 ^ P .states = mul-le-mul (le-refl (P .colour)) (w .states-high) in
+    let edges : edgeBits P * length (F .edges) ≤ edgeBits P * (2 ^ P .states * 2 ^ P .labels) = mul-le-mul (le-refl (edgeBits P)) (le-trans (w .count-in) most) in
+    omega (arith, colours, edges)
+
+pub largest-file : (P : Profile) → Usable P → (s vs : List ℕ) → checkOf P s ≡ accepted vs → length s ≤ longest P
+largest-file P ok s vs h =
+    let q = check-sound P s vs h .0 in
+    rw (← length-read P s q) (largest-length P (filterIn P s) (read-writable P ok s q))
+
+-- 45,253 bytes for the large file, 187 for the pocket file
+pub longest-files : (longest large ≡ 45253) × (longest pocket ≡ 187)
+unfolding fileLength bytesFor fileBits edgesBegin headerBits edgeBits
+longest-files = (refl, refl)

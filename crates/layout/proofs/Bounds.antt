@@ -1,27 +1,47 @@
 -- Sizes that the code meets: what the widths of a usable profile bound, and that a file's length is the least.
 -- Assumes nothing.
+use mathlib.Core.Path.{_≡_, refl}
+use mathlib.Core.Bool.{Bool, true, _&&_}
 use mathlib.Core.List.{List}
 use Prim.Native.Nat.{ℕ, _+_, _*_, _-_, _^_, _≤_, _<_}
 use native.Mathlib.Nat.{mul-le-mul, lt-of-lt-of-le}
 use native.Mathlib.Omega.{arith}
-use lib.Dec.{lit≤, lit<}
+use lib.Dec.{leb, ltb}
 use lib.Pow.{pow-mono}
+use borrow.Author.Tests.{leb-true, ltb-true}
+use Rattle.meaning.specs.Cases.{and-left, and-right}
 use Rattle.bits.proofs.Reading.{field-lt}
 use Rattle.layout.specs.declared.Profile.{Profile}
-use Rattle.layout.specs.Layout.{large, headerBits, edgeBits, edgesBegin, fileBits, bytesFor, fileLength, fillBits}
+use Rattle.layout.specs.Layout.{large, pocket, headerBits, edgeBits, edgesBegin, fileBits, bytesFor, fileLength, fillBits}
 use Rattle.layout.specs.Code.{Usable}
 use Rattle.layout.specs.Contents.{statesIn, labelsIn, startIn, countIn}
 
+-- what makes widths usable, as one test of both files' widths
+abbrev fits : Profile → Bool
+fits P = leb (P .states) 8 && (leb (P .labels) 8 && (leb (P .colour) 8 && (leb (P .start) 16 && (leb (P .edges) 15 && (leb (P .states) (P .start) && ltb (P .states + P .labels) (P .edges))))))
+
+usable : (P : Profile) → fits P ≡ true → Usable P
+usable P h =
+    let l = and-right (leb (P .states) 8) _ h in
+    let c = and-right (leb (P .labels) 8) _ l in
+    let s = and-right (leb (P .colour) 8) _ c in
+    let e = and-right (leb (P .start) 16) _ s in
+    let f = and-right (leb (P .edges) 15) _ e in
+    record {
+      states≤ = leb-true _ _ (and-left _ _ h);
+      labels≤ = leb-true _ _ (and-left _ _ l);
+      colour≤ = leb-true _ _ (and-left _ _ c);
+      start≤ = leb-true _ _ (and-left _ _ s);
+      edges≤ = leb-true _ _ (and-left _ _ e);
+      start-fits = leb-true _ _ (and-left _ _ f);
+      edges-fit = ltb-true _ _ (and-right (leb (P .states) (P .start)) _ f);
+    }
+
 pub large-usable : Usable large
-large-usable = record {
-  states≤ = lit≤ tt;
-  labels≤ = lit≤ tt;
-  colour≤ = lit≤ tt;
-  start≤ = lit≤ tt;
-  edges≤ = lit≤ tt;
-  start-fits = lit≤ tt;
-  edges-fit = lit< tt;
-}
+large-usable = usable large refl
+
+pub pocket-usable : Usable pocket
+pocket-usable = usable pocket refl
 
 -- ---- the length is the least whole number of bytes that holds the bits
 
@@ -72,9 +92,9 @@ module _ (P : Profile) (ok : Usable P) where
   unfolding startIn
   start-high s = lt-of-lt-of-le (field-lt s (P .states + P .labels) (P .start)) (pow-mono {j = 16} (ok .start≤))
 
-  pub count-high : (s : List ℕ) → countIn P s < 65536
+  pub count-high : (s : List ℕ) → countIn P s < 32768
   unfolding countIn
-  count-high s = lt-of-lt-of-le (field-lt s (P .states + P .labels + P .start) (P .edges)) (pow-mono {j = 16} (ok .edges≤))
+  count-high s = lt-of-lt-of-le (field-lt s (P .states + P .labels + P .start) (P .edges)) (pow-mono {j = 15} (ok .edges≤))
 
   pub header-high : headerBits P ≤ 48
   unfolding headerBits

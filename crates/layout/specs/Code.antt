@@ -12,13 +12,13 @@ use Rattle.layout.specs.declared.edge.Placed.{Placed}
 use Rattle.layout.specs.Layout.{headerWidths, headerValues}
 
 -- Widths that the code can use: states, labels and colours are bytes, and a start and a count of edges fit their fields, for a
--- start is below n, and e is at most n times m.
+-- start is below n, and e is at most n times m. With at most 15 bits for e a bit's position has at most six digits.
 pub record Usable (P : Profile) : Type 0 where
   pub states≤ : P .states ≤ 8
   pub labels≤ : P .labels ≤ 8
   pub colour≤ : P .colour ≤ 8
   pub start≤ : P .start ≤ 16
-  pub edges≤ : P .edges ≤ 16
+  pub edges≤ : P .edges ≤ 15
   pub start-fits : P .states ≤ P .start
   pub edges-fit : P .states + P .labels < P .edges
 

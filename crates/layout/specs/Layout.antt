@@ -1,4 +1,5 @@
--- How a filter stands in a file: widths, positions, length, and the bytes that are written (document 01, "The filter file").
+-- How a filter stands in a file: widths, positions, length, and the bytes that are written (document 01, "The filter file"; document 02, "The
+-- pocket profile").
 -- Assumes nothing.
 use Prim.Native.Nat.{ℕ, zero, suc, _+_, _*_, _-_, _/_}
 use mathlib.Core.List.{List, [], _∷_, _++_}
@@ -7,9 +8,13 @@ use Rattle.pen.specs.Runs.{putFields}
 use Rattle.meaning.specs.Filter.{Edge, Filter, states}
 use Rattle.layout.specs.declared.Profile.{Profile}
 
--- Widths in bits: of the fields for states, labels, start and edges, and of a colour.
+-- The widths of the large file in bits: of the fields for states, labels, start and edges, and of a colour.
 abbrev pub large : Profile
 large = record { states = 8; labels = 6; start = 8; edges = 15; colour = 6 }
+
+-- Those of the pocket file.
+abbrev pub pocket : Profile
+pocket = record { states = 4; labels = 3; start = 4; edges = 8; colour = 4 }
 
 -- The widths and the values of the four numbers that stand before the colours: n - 1, m - 1, start, e.
 abbrev pub headerWidths : Profile → List ℕ
@@ -30,7 +35,7 @@ edgeBits P = P .states + P .labels + P .states
 unfoldable pub edgesBegin : Profile → ℕ → ℕ
 edgesBegin P n = headerBits P + P .colour * n
 
--- Bits of n states and e edges: 37 + 6n + 22e in the large file.
+-- Bits of n states and e edges: 37 + 6n + 22e in the large file, 19 + 4n + 11e in the pocket file.
 unfoldable pub fileBits : Profile → ℕ → ℕ → ℕ
 fileBits P n e = edgesBegin P n + edgeBits P * e
 

@@ -6,7 +6,7 @@ pub mod header; // the four numbers before the colours
 ghost use mathlib.Core.Path.{_≡_};
 ghost use Prim.Native.Nat.{_≤_, _^_};
 ghost use Rattle.bits.specs.Bits.{putField};
-ghost use Rattle.layout.specs.Layout.{large, headerBits, edgeBits, edgesBegin, fileBits, fillBits, bytesFor};
+ghost use Rattle.layout.specs.Layout.{large, pocket, headerBits, edgeBits, edgesBegin, fileBits, fillBits, bytesFor};
 ghost use Rattle.layout.specs.Contents.{statesIn};
 ghost use Rattle.layout.specs.Code.{Usable};
 
@@ -42,6 +42,19 @@ pub fn large() -> Profile
         start: 8,
         edges: 15,
         colour: 6,
+    }
+}
+
+// The file for the entry model's board of sixteen states.
+pub fn pocket() -> Profile
+    ensures { λ r. ⌜ r ≡ pocket ⌝ }
+{
+    Profile {
+        states: 4,
+        labels: 3,
+        start: 4,
+        edges: 8,
+        colour: 4,
     }
 }
 

@@ -8,10 +8,10 @@ use Prim.Native.Nat.{ℕ, _+_, _*_, _-_, _≤_, _<_}
 use native.Mathlib.Decide.{decLt}
 use native.Mathlib.Nat.{le-antisymm, lt-of-lt-of-le}
 use native.Mathlib.Omega.{arith}
-use lib.Dec.{ltb}
-use lib.ListN.{length, getD, drop, replicate, List·getD-append, List·getD-eq-default}
+use lib.Dec.{ltb, lit≤}
+use lib.ListN.{length, getD, take, drop, replicate, List·getD-append, List·getD-eq-default}
 use lib.Pow.{pow-mono}
-use lib.Seq.{getD-drop, getD-append-add}
+use lib.Seq.{length-take-le, getD-take, getD-drop, getD-append-add, ext-getD}
 use borrow.Author.Tests.{ltb-true}
 use Rattle.bits.proofs.Reading.{field-lt}
 use Rattle.pen.specs.Runs.{fields}
@@ -25,12 +25,12 @@ use Rattle.refusals.specs.declared.Refusal.{Refusal}
 use Rattle.refusals.specs.Refusals.{accepted, refusalOutcome}
 use Rattle.layout.specs.declared.Profile.{Profile}
 use Rattle.layout.specs.declared.Reading.{Reading}
-use Rattle.layout.specs.Layout.{headerBits, edgeBits, edgesBegin}
+use Rattle.layout.specs.Layout.{pocket, headerBits, edgeBits, edgesBegin}
 use Rattle.layout.specs.declared.edge.Edge as layout
 use Rattle.layout.specs.declared.edge.Placed.{Placed}
 use Rattle.layout.specs.Contents.{statesIn, labelsIn, coloursIn, values, placedAt, placedFrom, edgeAt, edgesFrom, filterIn}
 use Rattle.layout.specs.Code.{edgeOf, bare, Small, Usable}
-use Rattle.layout.proofs.Bounds.{states-high}
+use Rattle.layout.proofs.Bounds.{pocket-usable, states-high, states-fit}
 use Rattle.layout.proofs.EdgeLists.{edges-around, edges-more, bare-read}
 use Rattle.edges.specs.declared.Cursor.{Cursor}
 use Rattle.edges.specs.declared.Verdict.{Verdict}
@@ -40,14 +40,14 @@ use Rattle.edges.proofs.Tests.{fault-free}
 use Rattle.edges.proofs.Walks.{begun, walk-begun, walk-clear, walk-next}
 use Rattle.files.specs.Files.{checkOf}
 use Rattle.files.specs.Tests.{HeadIs, edges-read, check-faultless}
-use Rattle.files.specs.Written.{length-filter, checked-in-order}
+use Rattle.files.specs.Written.{length-colours, length-filter, checked-in-order}
 use Rattle.checking.specs.declared.Checked.{Checked}
 use Rattle.checking.specs.declared.Checked.the-variants as checked
 use Rattle.checking.specs.Promise.{checkedOutcome}
 use Rattle.sets.proofs.FourLaws.{blank}
 use Rattle.table.specs.Table.{Table, table, look, Rows, SameRows, withEdge, Put}
 use Rattle.table.proofs.Laws.{look-empty}
-use Rattle.loading.specs.Loading.{Loadable, Loaded, Tabled}
+use Rattle.loading.specs.Loading.{Loadable, Loaded, Tabled, Coloured}
 
 -- ---- one edge more
 
@@ -170,6 +170,10 @@ serves P file targets labels k ok narrow long fresh h = record {
   rows = record { targets-long = omega (arith, long); labels-long = omega (arith, fresh .1) };
 }
 
+-- the small table serves every pocket file
+pub pocket-serves : (file targets labels : List ℕ) → length targets ≡ 1024 → (labels ≡ replicate 16 0) × (length labels ≡ 16) → Loadable pocket file (table targets labels)
+pocket-serves file targets labels long fresh = serves pocket file targets labels 16 pocket-usable (lit≤ tt) long fresh (states-fit pocket pocket-usable file)
+
 -- what is loaded can be looked up
 pub tabled : (P : Profile) (file : List ℕ) (r : Checked) (T T′ : Table) → Loadable P file T → Loaded P file r T T′ → Tabled P file r T′
 tabled P file r T T′ before after = record {
@@ -214,3 +218,11 @@ pub colours-read : (P : Profile) (file zeros hues : List ℕ) (from n k : ℕ) �
     hues ≡ fields file from (replicate n (P .colour)) ++ drop n zeros → at hues ≡ colour (filterIn P file)
 unfolding colour filterIn coloursIn
 colours-read P file zeros hues from n k e f g h = rw (h, e, f, g) (padded (coloursIn P file) (statesIn P file) k)
+
+-- the first of the bytes that hold the colours
+pub colours-taken : (P : Profile) (file : List ℕ) → Usable P → (hues : List ℕ) (n : ℕ) → n ≡ statesIn P file → Coloured P file hues → take n hues ≡ coloursIn P file
+unfolding filterIn colour
+colours-taken P file ok hues n is c =
+    let long : length (take n hues) ≡ n = length-take-le n hues (omega (arith, c .long, is, states-high P ok file)) in
+    ext-getD 0 (take n hues) (coloursIn P file) (long ∙ is ∙ sym (length-colours P file))
+    (λ i l. getD-take n hues i 0 (omega (arith, long)) ∙ ap (λ (f : ℕ → ℕ). f i) (c .colours))

@@ -4,7 +4,7 @@ use edges::Cursor;
 use edges::Verdict;
 use layout::Profile;
 ghost use mathlib.Core.Path.{_≡_};
-ghost use Rattle.layout.specs.Layout.{large};
+ghost use Rattle.layout.specs.Layout.{large, pocket};
 ghost use Rattle.layout.specs.Contents.{statesIn};
 ghost use Rattle.layout.specs.Code.{Usable};
 ghost use Rattle.files.specs.Files.{headOf};
@@ -22,6 +22,21 @@ pub fn load(targets: &mut [u8], labels: &mut [u64], file: &[u8]) -> Checked
     load_as(
         layout::large(),
         checking::headed(file),
+        targets,
+        labels,
+        file,
+    )
+}
+
+// The same of a pocket file.
+pub fn pocket_load(targets: &mut [u8], labels: &mut [u64], file: &[u8]) -> Checked
+    requires { ⌜ Loadable pocket (now file) (table (now targets) (now labels)) ⌝ }
+    ensures { λ r. ⌜ Loaded pocket (now (file .entry)) r (table (now (targets .entry)) (now (labels .entry)))
+        (table (now (targets .exit)) (now (labels .exit))) ⌝ }
+{
+    load_as(
+        layout::pocket(),
+        checking::pocket_headed(file),
         targets,
         labels,
         file,

@@ -13,6 +13,9 @@ use Rattle.packing.specs.Promise.{packedOutcome}
 use Rattle.packing.proofs.pack as pack
 use Rattle.packing.proofs.pack.Kinds as pack-kinds
 use Rattle.packing.proofs.pack.Reads as pack-reads
+use Rattle.packing.proofs.pocket_pack as pocket-pack
+use Rattle.packing.proofs.pocket_pack.Kinds as pocket-pack-kinds
+use Rattle.packing.proofs.pocket_pack.Reads as pocket-pack-reads
 
 pub packed-one : (a b : Packed) → packedOutcome a ≡ packedOutcome b → a ≡ b
 packed-one (packed.Accepted m) (packed.Accepted n) e = ap packed.Accepted (cc e)
@@ -25,3 +28,9 @@ pub pack-contract-one : (κs : Lfts 3) (a : ArgsD pack.signature κs) (r₁ r₂
     pack-reads.Post κs a r₁ s₁ → pack-reads.Post κs a r₂ s₂ →
     (r₁ ≡ r₂) × (now (s₁ .1 .1 .1 .1 .0) ≡ now (s₂ .1 .1 .1 .1 .0))
 pack-contract-one κs a r₁ r₂ s₁ s₂ p₁ p₂ = let one = promise-one p₁ p₂ in (packed-one r₁ r₂ (one .0), cc (one .1))
+
+pub pocket-pack-contract-one : (κs : Lfts 3) (a : ArgsD pocket-pack.signature κs) (r₁ r₂ : ResD pocket-pack.signature κs)
+    (s₁ s₂ : AtExit (endedOf 3 pocket-pack-kinds.ps pocket-pack-kinds.r) κs) →
+    pocket-pack-reads.Post κs a r₁ s₁ → pocket-pack-reads.Post κs a r₂ s₂ →
+    (r₁ ≡ r₂) × (now (s₁ .1 .1 .1 .1 .0) ≡ now (s₂ .1 .1 .1 .1 .0))
+pocket-pack-contract-one κs a r₁ r₂ s₁ s₂ p₁ p₂ = let one = promise-one p₁ p₂ in (packed-one r₁ r₂ (one .0), cc (one .1))

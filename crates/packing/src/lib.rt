@@ -11,7 +11,7 @@ ghost use Prim.Native.Nat.{_+_, _*_, _/_, _<_};
 ghost use lib.ListN.{length};
 ghost use Rattle.pen.specs.Runs.{putFields};
 ghost use Rattle.refusals.specs.Refusals.{accepted, firstOf, roomTest, laid};
-ghost use Rattle.layout.specs.Layout.{large, edgeWidths, threes, fromLists, lengthOf, written};
+ghost use Rattle.layout.specs.Layout.{large, pocket, edgeWidths, threes, fromLists, lengthOf, written};
 ghost use Rattle.layout.specs.Code.{Usable, Small, edgeOf, edgeIn};
 ghost use Rattle.edges.specs.Faults.{listedFrom, firstFault};
 ghost use Rattle.edges.specs.Walk.{faultOf};
@@ -30,6 +30,14 @@ pub fn pack(colours: &[u8], edges: &[u8], m: usize, start: usize, room: &mut [u8
         r (now (room .exit)) ⌝ }
 {
     pack_as(layout::large(), colours, edges, m, start, room)
+}
+
+// The same into a pocket file.
+pub fn pocket_pack(colours: &[u8], edges: &[u8], m: usize, start: usize, room: &mut [u8]) -> Packed
+    ensures { λ r. ⌜ PackPromise pocket (now (colours .entry)) (now (edges .entry)) m start (now (room .entry))
+        r (now (room .exit)) ⌝ }
+{
+    pack_as(layout::pocket(), colours, edges, m, start, room)
 }
 
 // The same for any widths.
@@ -103,7 +111,7 @@ fn test_room(length: usize, room: usize) -> Packed
 }
 
 // Whether the file's widths hold so many states, so many labels and each colour.
-fn holdable(p: Profile, colours: &[u8], m: usize) -> bool
+pub fn holdable(p: Profile, colours: &[u8], m: usize) -> bool
     requires { ⌜ Usable p ⌝ }
     ensures { λ r. ⌜ r ≡ holdable p (now (colours .entry)) m ⌝ }
 {
@@ -137,7 +145,7 @@ fn all_below(limit: usize, values: &[u8]) -> bool
 }
 
 // Writes the file of lists that were tested into a room that holds it.
-fn write(p: Profile, colours: &[u8], edges: &[u8], m: usize, start: usize, room: &mut [u8])
+pub fn write(p: Profile, colours: &[u8], edges: &[u8], m: usize, start: usize, room: &mut [u8])
     requires { ⌜ Usable p
         × (packOf p (now colours) (now edges) m start (length (now room))
         ≡ accepted (lengthOf p (fromLists (now colours) (now edges) m start) ∷ [])) ⌝ }

@@ -7,7 +7,7 @@ use borrow.Fn.Kinds.{endedOf}
 use denote.Ref.{now}
 use denote.Triple.Clauses.{AtExit}
 use mathlib.Core.Path.{_≡_}
-use Rattle.pierhollow.proofs.Telling.{told-one}
+use Rattle.telling.proofs.Telling.{told-one}
 use Rattle.pierhollow.proofs.pierhollow_check as check
 use Rattle.pierhollow.proofs.pierhollow_check.Kinds as check-kinds
 use Rattle.pierhollow.proofs.pierhollow_check.Reads as check-reads

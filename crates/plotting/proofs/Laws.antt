@@ -2,24 +2,20 @@
 -- Assumes nothing.
 use mathlib.Core.Path.{_≡_, refl, sym, ap, ap₂, _∙_}
 use mathlib.Core.List.{List, [], _∷_, _++_, append-nil, append-assoc}
-use Prim.Native.Nat.{ℕ, suc, _+_, _*_, _-_, _≤_, _<_}
-use native.Mathlib.Nat.{add-zero, zero-add, mul-suc}
+use Prim.Native.Nat.{ℕ, _+_, _*_, _-_, _≤_, _<_}
+use native.Mathlib.Nat.{zero-add, mul-suc}
 use native.Mathlib.Numerals.{add-one}
 use native.Mathlib.Omega.{arith}
-use lib.ListN.{length, getD, take, drop, replicate, length-append, length-replicate}
-use lib.Seq.{length-take-le, take-suc, take-add, getD-take, ext-getD}
-use Rattle.pen.proofs.Runs.{length-fields}
+use lib.ListN.{length, getD, take, drop, length-append}
+use lib.Seq.{length-take-le, take-suc, take-add}
 use Rattle.meaning.specs.Filter.{Edge}
-use Rattle.meaning.specs.Trace.{colour}
 use Rattle.layout.specs.declared.Profile.{Profile}
-use Rattle.layout.specs.Layout.{headerBits, edgeBits, edgesBegin}
-use Rattle.layout.specs.Code.{Usable}
-use Rattle.layout.specs.Contents.{statesIn, countIn, coloursIn, placedIn, edgeAt, edgesFrom, edgesIn, filterIn}
+use Rattle.layout.specs.Layout.{edgeBits, edgesBegin}
+use Rattle.layout.specs.Contents.{statesIn, countIn, coloursIn, placedIn, edgeAt, edgesFrom, edgesIn}
 use Rattle.layout.proofs.Bounds.{states-high, count-high}
 use Rattle.layout.proofs.EdgeLists.{edges-more, edges-around}
 use Rattle.drawing.specs.Profile.{opening, closing, stateLine, edgeLine, stateLines, edgeLines, drawn, larger, labelsOf}
 use Rattle.drawing.specs.More.{states-append, states-one, labels-more}
-use Rattle.loading.specs.Loading.{Coloured}
 use Rattle.plotting.specs.declared.Extent.{Extent}
 use Rattle.plotting.specs.Plot.{textOf, extentOf, Plottable}
 
@@ -104,19 +100,6 @@ module _ (P : Profile) (file : List ℕ) (first : ℕ) where
 -- ---- a file
 
 module _ (P : Profile) (file : List ℕ) where
-  colours-long : length (coloursIn P file) ≡ statesIn P file
-  unfolding coloursIn
-  colours-long =
-      length-fields file (headerBits P) (replicate (statesIn P file) (P .colour)) ∙ length-replicate (statesIn P file) (P .colour)
-
-  -- the first of the bytes that hold the colours
-  pub colours-are : Usable P → (hues : List ℕ) (n : ℕ) → n ≡ statesIn P file → Coloured P file hues → take n hues ≡ coloursIn P file
-  unfolding filterIn colour
-  colours-are ok hues n is c =
-      let long : length (take n hues) ≡ n = length-take-le n hues (omega (arith, c .long, is, states-high P ok file)) in
-      ext-getD 0 (take n hues) (coloursIn P file) (long ∙ is ∙ sym colours-long)
-      (λ i l. getD-take n hues i 0 (omega (arith, long)) ∙ ap (λ (f : ℕ → ℕ). f i) (c .colours))
-
   -- the text's pieces, one behind another
   pub text-pieces : ((opening ++ stateLines 0 (coloursIn P file)) ++ edgeLines (edgesIn P file)) ++ closing ≡ textOf P file
   unfolding textOf drawn

@@ -17,7 +17,7 @@ use Rattle.refusals.specs.Refusals.{Outcome, accepted, refused, refusalOutcome,
 use Rattle.refusals.proofs.Laws.{first-passed, promise-refused, promise-accepted}
 use Rattle.layout.proofs.Bounds.{large-usable, states-high}
 use Rattle.files.specs.Files.{checkOf}
-use Rattle.files.specs.Written.{largest-file}
+use Rattle.files.specs.Written.{largest-file, longest-files}
 use Rattle.folding.specs.declared.Counts.{Counts}
 use Rattle.reduction.specs.declared.Reduced.the-variants as variants
 use Rattle.folding.specs.Folding.{Rooms, countsOf, Folded}
@@ -54,4 +54,4 @@ roomy s room long wide = go (checkOf large s) refl
     go (refused k p) e = refl
     go (accepted vs) e =
         first-passed (reduceTests large s room) _
-        (le-ltb (length (room .answer)) (length s) (omega (arith, largest-file s vs e)), (le-ltb (length (room .classes)) (statesIn large s) (omega (arith, states-high large large-usable s)), tt))
+        (le-ltb (length (room .answer)) (length s) (omega (arith, largest-file large large-usable s vs e, longest-files .0)), (le-ltb (length (room .classes)) (statesIn large s) (omega (arith, states-high large large-usable s)), tt))

@@ -15,8 +15,11 @@ use Rattle.reduction.specs.declared.Reduced.the-variants as reduced
 use Rattle.folding.specs.Folding.{countsOutcome}
 use Rattle.reduction.specs.Answers.{reducedOutcome}
 use Rattle.reduction.proofs.reduce as reduce
-use Rattle.reduction.proofs.reduce.Kinds as kinds
-use Rattle.reduction.proofs.reduce.Reads as reads
+use Rattle.reduction.proofs.reduce.Kinds as reduce-kinds
+use Rattle.reduction.proofs.reduce.Reads as reduce-reads
+use Rattle.reduction.proofs.pocket_reduce as pocket-reduce
+use Rattle.reduction.proofs.pocket_reduce.Kinds as pocket-reduce-kinds
+use Rattle.reduction.proofs.pocket_reduce.Reads as pocket-reduce-reads
 
 counts-one : (a b : Counts) → countsOutcome a ≡ countsOutcome b → a ≡ b
 counts-one a b e =
@@ -33,6 +36,11 @@ reduced-one (reduced.Accepted a) (reduced.Refused s) e = impossible cc
 reduced-one (reduced.Refused r) (reduced.Accepted b) e = impossible cc
 
 pub reduce-contract-one : (κs : Lfts 3) (a : ArgsD reduce.signature κs) (r₁ r₂ : ResD reduce.signature κs)
-    (s₁ s₂ : AtExit (endedOf 3 kinds.ps kinds.r) κs) →
-    reads.Post κs a r₁ s₁ → reads.Post κs a r₂ s₂ → (r₁ ≡ r₂) × (now (s₁ .1 .0) ≡ now (s₂ .1 .0)) × (now (s₁ .1 .1 .0) ≡ now (s₂ .1 .1 .0))
+    (s₁ s₂ : AtExit (endedOf 3 reduce-kinds.ps reduce-kinds.r) κs) →
+    reduce-reads.Post κs a r₁ s₁ → reduce-reads.Post κs a r₂ s₂ → (r₁ ≡ r₂) × (now (s₁ .1 .0) ≡ now (s₂ .1 .0)) × (now (s₁ .1 .1 .0) ≡ now (s₂ .1 .1 .0))
 reduce-contract-one κs a r₁ r₂ s₁ s₂ p₁ p₂ = let one = promise-one p₁ p₂ in (reduced-one r₁ r₂ (one .0), cc (one .1), cc (one .1))
+
+pub pocket-reduce-contract-one : (κs : Lfts 3) (a : ArgsD pocket-reduce.signature κs) (r₁ r₂ : ResD pocket-reduce.signature κs)
+    (s₁ s₂ : AtExit (endedOf 3 pocket-reduce-kinds.ps pocket-reduce-kinds.r) κs) →
+    pocket-reduce-reads.Post κs a r₁ s₁ → pocket-reduce-reads.Post κs a r₂ s₂ → (r₁ ≡ r₂) × (now (s₁ .1 .0) ≡ now (s₂ .1 .0)) × (now (s₁ .1 .1 .0) ≡ now (s₂ .1 .1 .0))
+pocket-reduce-contract-one κs a r₁ r₂ s₁ s₂ p₁ p₂ = let one = promise-one p₁ p₂ in (reduced-one r₁ r₂ (one .0), cc (one .1), cc (one .1))

@@ -4,7 +4,7 @@ use folding::Counts;
 use layout::Profile;
 use refusals::Kind;
 use refusals::Refusal;
-ghost use Rattle.layout.specs.Layout.{large};
+ghost use Rattle.layout.specs.Layout.{large, pocket};
 ghost use Rattle.table.specs.Table.{table};
 ghost use Rattle.loading.specs.Loading.{Loadable, Tabled};
 ghost use Rattle.folding.specs.Folding.{rooms};
@@ -37,7 +37,26 @@ pub fn reduce(file: &[u8], answer: &mut [u8], classes: &mut [u16]) -> Reduced
     reduce_with(&mut targets, &mut labels, file, answer, classes)
 }
 
-// The same with an empty table that has a row for each state.
+// The same of a pocket file.
+pub fn pocket_reduce(file: &[u8], answer: &mut [u8], classes: &mut [u16]) -> Reduced
+    ensures { λ r. ⌜ ReducePromise pocket (now (file .entry)) (rooms (now (answer .entry)) (now (classes .entry)))
+        r (rooms (now (answer .exit)) (now (classes .exit))) ⌝ }
+{
+    let mut targets = table::small_targets();
+    let mut labels = table::small_labels();
+    let checked = loading::pocket_load(&mut targets, &mut labels, file);
+    reduce_as(
+        layout::pocket(),
+        checked,
+        &mut targets,
+        &mut labels,
+        file,
+        answer,
+        classes,
+    )
+}
+
+// `reduce` with a fresh table that has a row for each state.
 fn reduce_with(
     targets: &mut [u8],
     labels: &mut [u64],

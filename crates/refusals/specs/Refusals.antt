@@ -29,6 +29,7 @@ numberOf kind.Room = 12
 numberOf kind.Observation = 13
 numberOf kind.Lists = 14
 numberOf kind.Drawing = 15
+numberOf kind.Pocket = 16
 
 -- What a call answers: the values that come back, or a refusal's number and place. With a refusal no other number comes back.
 pub data Outcome : Type 0 where

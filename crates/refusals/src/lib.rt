@@ -18,6 +18,7 @@ pub enum Kind {
     Observation,
     Lists,
     Drawing,
+    Pocket,
 }
 
 pub struct Refusal {
@@ -52,5 +53,6 @@ pub fn number(kind: Kind) -> u8
         Kind::Observation => 13,
         Kind::Lists => 14,
         Kind::Drawing => 15,
+        Kind::Pocket => 16,
     }
 }

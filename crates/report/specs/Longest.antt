@@ -44,6 +44,6 @@ unfolding reduceText
 reduce-longest file = go (checkOf large file) refl
   where
     go : (o : Outcome) → checkOf large file ≡ o → length (orRefusal o (reducedText (states (filterIn large file)) (states (reduced (filterIn large file))) (distinct (filterIn large file)) (reduce (filterIn large file) .rounds) (classList (filterIn large file)))) ≤ 2064
-    go (refused k p) e = let s = check-small file k p e in omega (arith, refusal-most k p (s .0) (s .1))
+    go (refused k p) e = let s = check-small large large-usable file k p e in omega (arith, refusal-most k p (s .0) (s .1))
     go (accepted vs) e =
         counts-most (filterIn large file) (rw (length-filter large file) (states-high large large-usable file)) (checked-in-order large large-usable file vs e)

@@ -70,7 +70,7 @@ trace-longest file ys = go (traceOf large file ys (length ys + 1)) refl
   where
     go : (o : Outcome) → traceOf large file ys (length ys + 1) ≡ o →
         length (orRefusal o (numberLines (shown (filterIn large file) ys) ++ endLine (stops (filterIn large file) ys))) ≤ 196619
-    go (refused k p) e = let s = trace-small file ys (length ys + 1) k p e in omega (arith, refusal-most k p (s .0) (s .1))
+    go (refused k p) e = let s = trace-small large large-usable file ys (length ys + 1) k p e in omega (arith, refusal-most k p (s .0) (s .1))
     go (accepted vs) e =
         let rode = trace-accepted large file ys (length ys + 1) vs e in
         let writable = read-writable large large-usable file (check-sound large file _ (rode .checks .1) .0) in

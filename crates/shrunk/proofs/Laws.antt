@@ -15,7 +15,7 @@ use Rattle.layout.specs.Contents.{filterIn}
 use Rattle.layout.proofs.Bounds.{large-usable}
 use Rattle.files.specs.Files.{checkOf}
 use Rattle.files.specs.Tests.{check-sound, Writable}
-use Rattle.files.specs.Written.{length-written, read-writable, largest-length}
+use Rattle.files.specs.Written.{length-written, read-writable, largest-length, longest-files}
 use Rattle.folding.specs.declared.Counts.{Counts}
 use Rattle.folding.specs.Folding.{Rooms, countsOf}
 use Rattle.folding.proofs.Accepted.{reduced-writable}
@@ -51,7 +51,7 @@ module _ (s : List ℕ) (room left : Rooms) (r : Reduced) (kept : ReducePromise 
     writable = reduced-writable large large-usable F (read-writable large large-usable s (check-sound large s _ (checked .1) .0))
 
     pub short : c .length ≤ 45253
-    short = rw (← length-is) (largest-length (reduced F) writable)
+    short = omega (arith, length-is, largest-length large (reduced F) writable, longest-files .0)
 
     pub bytes-are : take (c .length) (left .answer) ≡ shrinkBytes s
     unfolding shrinkBytes

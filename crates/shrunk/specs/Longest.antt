@@ -12,7 +12,7 @@ use Rattle.layout.specs.Contents.{filterIn}
 use Rattle.layout.proofs.Bounds.{large-usable}
 use Rattle.files.specs.Files.{checkOf}
 use Rattle.files.specs.Tests.{check-sound, Writable}
-use Rattle.files.specs.Written.{length-written, read-writable, largest-length}
+use Rattle.files.specs.Written.{length-written, read-writable, largest-length, longest-files}
 use Rattle.folding.proofs.Accepted.{reduced-writable}
 use Rattle.shrunk.specs.Shrunk.{orNothing, shrinkBytes}
 
@@ -24,4 +24,4 @@ shrink-longest file = go (checkOf large file) refl
     go (refused k p) e = omega arith
     go (accepted vs) e =
         let w = reduced-writable large large-usable (filterIn large file) (read-writable large large-usable file (check-sound large file vs e .0)) in
-        omega (arith, length-written large large-usable (reduced (filterIn large file)) w, largest-length (reduced (filterIn large file)) w)
+        omega (arith, length-written large large-usable (reduced (filterIn large file)) w, largest-length large (reduced (filterIn large file)) w, longest-files .0)

@@ -27,6 +27,10 @@ abbrev pub valuesAfter : Outcome → List ℕ → List ℕ
 valuesAfter (accepted vs) array = stored 0 vs array
 valuesAfter (refused number place) array = array
 
+-- The number returned and the array of values, by the outcome that is answered.
+abbrev pub Spoken : Outcome → List ℕ → ℕ → List ℕ → Type 0
+Spoken answered values r values′ = (r ≡ codeOf answered) × (values′ ≡ valuesAfter answered values)
+
 -- The number returned, the array of values and the lent rooms, by the outcome that is due.
 pub record Told (due : Outcome) (rooms : List Lent) (values : List ℕ) (r : ℕ) (left : List (List ℕ)) (values′ : List ℕ) : Type 0 where
   pub number : r ≡ codeOf due

@@ -12,7 +12,8 @@ use Rattle.meaning.specs.Cases.{impossible}
 use Rattle.meaning.specs.Trace.{later, stops}
 use Rattle.meaning.specs.TraceLaws.{later-within}
 use Rattle.refusals.specs.Refusals.{Outcome}
-use Rattle.layout.specs.Layout.{large}
+use Rattle.layout.specs.declared.Profile.{Profile}
+use Rattle.layout.specs.Code.{Usable}
 use Rattle.layout.specs.Contents.{labelsIn, filterIn}
 use Rattle.files.specs.Files.{checkOf}
 use Rattle.files.specs.Places.{Small, small-accepted, small-at, small-first, small-onward, check-small}
@@ -39,9 +40,9 @@ small-ride : (o : Option ℕ) → Small (rideOutcome o)
 small-ride none = small-accepted _
 small-ride (some i) = small-accepted _
 
-pub trace-small : (s ys : List ℕ) (room : ℕ) → Small (traceOf large s ys room)
+pub trace-small : (P : Profile) → Usable P → (s ys : List ℕ) (room : ℕ) → Small (traceOf P s ys room)
 unfolding traceOf
-trace-small s ys room = small-onward (checkOf large s) _ (check-small s) (small-first (traceTests ys room) _ refl λ p.
-    small-labels (firstOutside (labelsIn large s) ys) _
-    (λ i e. omega (arith, outside-within (labelsIn large s) ys i e, rode-few ys room (p .0)))
-    (small-ride (stops (filterIn large s) ys)))
+trace-small P ok s ys room = small-onward (checkOf P s) _ (check-small P ok s) (small-first (traceTests ys room) _ refl λ p.
+    small-labels (firstOutside (labelsIn P s) ys) _
+    (λ i e. omega (arith, outside-within (labelsIn P s) ys i e, rode-few ys room (p .0)))
+    (small-ride (stops (filterIn P s) ys)))

@@ -5,7 +5,7 @@ use refusals::Kind;
 use refusals::Refusal;
 ghost use mathlib.Core.Path.{_≡_};
 ghost use Prim.Native.Nat.{_+_, _<_};
-ghost use Rattle.layout.specs.Layout.{large};
+ghost use Rattle.layout.specs.Layout.{large, pocket};
 ghost use Rattle.table.specs.Table.{table, look, Rows};
 ghost use Rattle.loading.specs.Loading.{Loadable, Tabled};
 ghost use Rattle.tracing.specs.Promise.{TracePromise};
@@ -40,7 +40,26 @@ pub fn trace(file: &[u8], observations: &[u8], colours: &mut [u8]) -> Traced
     trace_in(&mut targets, &mut labels, file, observations, colours)
 }
 
-// The same with a fresh table that has a row for each state.
+// The same of a pocket file.
+pub fn pocket_trace(file: &[u8], observations: &[u8], colours: &mut [u8]) -> Traced
+    ensures { λ r. ⌜ TracePromise pocket (now (file .entry)) (now (observations .entry)) (now (colours .entry)) r
+        (now (colours .exit)) ⌝ }
+{
+    let mut targets = table::small_targets();
+    let mut labels = table::small_labels();
+    let answer = loading::pocket_load(&mut targets, &mut labels, file);
+    trace_with(
+        layout::pocket(),
+        answer,
+        &targets,
+        &labels,
+        file,
+        observations,
+        colours,
+    )
+}
+
+// `trace` with a fresh table that has a row for each state.
 fn trace_in(
     targets: &mut [u8],
     labels: &mut [u64],

@@ -14,6 +14,9 @@ use Rattle.unpacking.specs.Promise.{unpackedOutcome}
 use Rattle.unpacking.proofs.unpack as unpack
 use Rattle.unpacking.proofs.unpack.Kinds as unpack-kinds
 use Rattle.unpacking.proofs.unpack.Reads as unpack-reads
+use Rattle.unpacking.proofs.pocket_unpack as pocket-unpack
+use Rattle.unpacking.proofs.pocket_unpack.Kinds as pocket-unpack-kinds
+use Rattle.unpacking.proofs.pocket_unpack.Reads as pocket-unpack-reads
 
 pub unpacked-one : (a b : Unpacked) → unpackedOutcome a ≡ unpackedOutcome b → a ≡ b
 unpacked-one (unpacked.Accepted r) (unpacked.Accepted s) e = ap unpacked.Accepted (reading-one r s e)
@@ -26,3 +29,9 @@ pub unpack-contract-one : (κs : Lfts 3) (a : ArgsD unpack.signature κs) (r₁ 
     unpack-reads.Post κs a r₁ s₁ → unpack-reads.Post κs a r₂ s₂ →
     (r₁ ≡ r₂) × (now (s₁ .1 .0) ≡ now (s₂ .1 .0)) × (now (s₁ .1 .1 .0) ≡ now (s₂ .1 .1 .0))
 unpack-contract-one κs a r₁ r₂ s₁ s₂ p₁ p₂ = let one = promise-one p₁ p₂ in (unpacked-one r₁ r₂ (one .0), cc (one .1), cc (one .1))
+
+pub pocket-unpack-contract-one : (κs : Lfts 3) (a : ArgsD pocket-unpack.signature κs) (r₁ r₂ : ResD pocket-unpack.signature κs)
+    (s₁ s₂ : AtExit (endedOf 3 pocket-unpack-kinds.ps pocket-unpack-kinds.r) κs) →
+    pocket-unpack-reads.Post κs a r₁ s₁ → pocket-unpack-reads.Post κs a r₂ s₂ →
+    (r₁ ≡ r₂) × (now (s₁ .1 .0) ≡ now (s₂ .1 .0)) × (now (s₁ .1 .1 .0) ≡ now (s₂ .1 .1 .0))
+pocket-unpack-contract-one κs a r₁ r₂ s₁ s₂ p₁ p₂ = let one = promise-one p₁ p₂ in (unpacked-one r₁ r₂ (one .0), cc (one .1), cc (one .1))

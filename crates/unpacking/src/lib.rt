@@ -9,7 +9,7 @@ ghost use mathlib.Core.Path.{_≡_};
 ghost use mathlib.Core.List.{_++_};
 ghost use Prim.Native.Nat.{_*_};
 ghost use lib.ListN.{drop};
-ghost use Rattle.layout.specs.Layout.{large, flat};
+ghost use Rattle.layout.specs.Layout.{large, pocket, flat};
 ghost use Rattle.layout.specs.Contents.{edgesFrom};
 ghost use Rattle.layout.specs.Code.{Usable};
 ghost use Rattle.checking.specs.Promise.{CheckPromise};
@@ -26,6 +26,20 @@ pub fn unpack(file: &[u8], colours: &mut [u8], edges: &mut [u8]) -> Unpacked
         r (rooms (now (colours .exit)) (now (edges .exit))) ⌝ }
 {
     unpack_as(layout::large(), checking::check(file), file, colours, edges)
+}
+
+// The same of a pocket file.
+pub fn pocket_unpack(file: &[u8], colours: &mut [u8], edges: &mut [u8]) -> Unpacked
+    ensures { λ r. ⌜ UnpackPromise pocket (now (file .entry)) (rooms (now (colours .entry)) (now (edges .entry)))
+        r (rooms (now (colours .exit)) (now (edges .exit))) ⌝ }
+{
+    unpack_as(
+        layout::pocket(),
+        checking::pocket_check(file),
+        file,
+        colours,
+        edges,
+    )
 }
 
 // The same for any widths, of a file that was checked.
@@ -57,7 +71,7 @@ fn unpack_as(
 }
 
 // Reads e edges from bit `at` on into the first 3e entries of out; the rest stays.
-fn get_edges(p: Profile, file: &[u8], at: usize, e: usize, out: &mut [u8])
+pub fn get_edges(p: Profile, file: &[u8], at: usize, e: usize, out: &mut [u8])
     requires { ⌜ Readable p at e (now out) ⌝ }
     ensures { λ _. ⌜ now (out .exit) ≡ flat (edgesFrom p (now (file .entry)) at e) ++ drop (3 * e) (now (out .entry)) ⌝ }
 {

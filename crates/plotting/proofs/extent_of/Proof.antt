@@ -7,7 +7,8 @@ use denote.Ref.{now}
 use lib.ListN.{length}
 use Rattle.meaning.specs.Filter.{Edge}
 use Rattle.drawing.specs.Profile.{stateLines, edgeLines, labelsOf}
-use Rattle.plotting.proofs.Laws.{colours-are, edges-are, text-length, extent-is, few}
+use Rattle.loading.proofs.Laws.{colours-taken}
+use Rattle.plotting.proofs.Laws.{edges-are, text-length, extent-is, few}
 use Rattle.plotting.proofs.extent_of.Statement.{statement}
 use Rattle.plotting.proofs.extent_of.Tie as tie
 
@@ -49,7 +50,7 @@ returns c =
     let start = begin .before .before in
     let p = start .args .p in
     let file = now (start .args .file) in
-    let colours = colours-are p file (start .pre .usable) (now (start .args .colours)) (start .args .n) (start .pre .states) (start .pre .coloured) in
+    let colours = colours-taken p file (start .pre .usable) (now (start .args .colours)) (start .args .n) (start .pre .states) (start .pre .coloured) in
     let listed = edges-are p file (start .args .n) (start .args .e) (begin .edges-begin .result) (start .pre .states) (start .pre .edges) (begin .edges-begin .ensures .0) in
     let first = states .states-length .ensures .0 ∙ ap (λ (cs : List ℕ). length (stateLines 0 cs)) colours in
     let second = edges .edges-extent .ensures .0 ∙ ap (λ (es : List Edge). length (edgeLines es)) listed in

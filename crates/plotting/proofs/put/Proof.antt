@@ -8,7 +8,8 @@ use lib.ListN.{length, take}
 use Rattle.text.proofs.Laws.{same, both}
 use Rattle.layout.specs.Contents.{coloursIn, edgesFrom, edgesIn}
 use Rattle.drawing.specs.Profile.{opening, closing, stateLines, edgeLines}
-use Rattle.plotting.proofs.Laws.{colours-are, edges-are, text-pieces, text-length, few}
+use Rattle.loading.proofs.Laws.{colours-taken}
+use Rattle.plotting.proofs.Laws.{edges-are, text-pieces, text-length, few}
 use Rattle.plotting.proofs.put.Statement.{statement}
 use Rattle.plotting.proofs.put.Tie as tie
 
@@ -17,7 +18,7 @@ states-are : (c : tie.Start) → stateLines 0 (take (c .args .n) (now (c .args .
 states-are c =
     let a = c .args in
     let ok = c .pre .0 in
-    ap (stateLines 0) (colours-are (a .p) (now (a .file)) (ok .usable) (now (a .colours)) (a .n) (ok .states) (ok .coloured))
+    ap (stateLines 0) (colours-taken (a .p) (now (a .file)) (ok .usable) (now (a .colours)) (a .n) (ok .states) (ok .coloured))
 
 abbrev begun : tie.After-edges-begin → tie.After-put-states
 begun c = c .before .before .before .before

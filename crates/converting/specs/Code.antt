@@ -1,0 +1,11 @@
+-- The two profiles that the code can convert between. No public call's promise speaks of these.
+-- Assumes nothing.
+use Prim.Native.Nat.{ℕ, _*_, _^_, _≤_}
+use Rattle.layout.specs.declared.Profile.{Profile}
+use Rattle.layout.specs.Code.{Usable}
+
+-- A filter that both files can hold has at most 128 edges; the code has room for no more.
+pub record Convertible (From To : Profile) : Type 0 where
+  pub from : Usable From
+  pub to : Usable To
+  pub few : (n m : ℕ) → n ≤ 2 ^ From .states → n ≤ 2 ^ To .states → m ≤ 2 ^ From .labels → m ≤ 2 ^ To .labels → n * m ≤ 128

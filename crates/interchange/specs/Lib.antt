@@ -1,0 +1,3 @@
+-- Theorems.
+pub mod Interchange
+pub mod Pocket
