@@ -1,52 +1,71 @@
 //! One call with all that is lent to it, and its outcome with all that was lent.
 
-use crate::call::{check, from_dot, pack, reduce, to_dot, trace, unpack, Answer};
+use crate::call::{from_dot, to_dot, to_large, to_pocket, Answer};
+use crate::profile::{Profile, LARGE, POCKET};
 
 #[derive(Clone, Copy, Debug, PartialEq, Eq, PartialOrd, Ord)]
 pub enum Call {
-    Check,
-    Unpack,
-    Pack,
-    Trace,
-    Reduce,
+    Check(Profile),
+    Unpack(Profile),
+    Pack(Profile),
+    Trace(Profile),
+    Reduce(Profile),
     FromDot,
     ToDot,
+    ToLarge,
+    ToPocket,
 }
 
 impl Call {
-    pub const ALL: [Call; 7] = [
-        Call::Check,
-        Call::Unpack,
-        Call::Pack,
-        Call::Trace,
-        Call::Reduce,
+    /// In the order of the bytes that stand for them in a batch, of which the first is 1.
+    pub const ALL: [Call; 14] = [
+        Call::Check(LARGE),
+        Call::Unpack(LARGE),
+        Call::Pack(LARGE),
+        Call::Trace(LARGE),
+        Call::Reduce(LARGE),
         Call::FromDot,
         Call::ToDot,
+        Call::Check(POCKET),
+        Call::Unpack(POCKET),
+        Call::Pack(POCKET),
+        Call::Trace(POCKET),
+        Call::Reduce(POCKET),
+        Call::ToLarge,
+        Call::ToPocket,
     ];
 
     /// The byte that stands for the call in a batch.
     pub fn byte(self) -> u8 {
-        match self {
-            Call::Check => 1,
-            Call::Unpack => 2,
-            Call::Pack => 3,
-            Call::Trace => 4,
-            Call::Reduce => 5,
-            Call::FromDot => 6,
-            Call::ToDot => 7,
-        }
+        let position = Call::ALL.iter().position(|&call| call == self);
+        position.expect("a call of the library") as u8 + 1
     }
 
     /// The numbers that the call can answer with, 0 for accepted.
     pub fn numbers(self) -> &'static [u8] {
         match self {
-            Call::Check => &[0, 1, 2, 3, 4, 5, 6, 7, 8, 9],
-            Call::Unpack => &[0, 1, 2, 3, 4, 5, 6, 7, 8, 9, 12],
-            Call::Pack => &[0, 14, 2, 3, 7, 8, 9, 10],
-            Call::Trace => &[0, 1, 2, 3, 4, 5, 6, 7, 8, 9, 12, 13],
-            Call::Reduce => &[0, 1, 2, 3, 4, 5, 6, 7, 8, 9, 10, 11],
+            Call::Check(_) => &[0, 1, 2, 3, 4, 5, 6, 7, 8, 9],
+            Call::Unpack(_) => &[0, 1, 2, 3, 4, 5, 6, 7, 8, 9, 12],
+            Call::Pack(_) => &[0, 14, 2, 3, 7, 8, 9, 10],
+            Call::Trace(_) => &[0, 1, 2, 3, 4, 5, 6, 7, 8, 9, 12, 13],
+            Call::Reduce(_) => &[0, 1, 2, 3, 4, 5, 6, 7, 8, 9, 10, 11],
             Call::FromDot => &[0, 15, 14, 3, 7, 8, 9, 10],
             Call::ToDot => &[0, 1, 2, 3, 4, 5, 6, 7, 8, 9, 15, 10],
+            Call::ToLarge => &[0, 1, 2, 3, 4, 5, 6, 7, 8, 9, 10],
+            Call::ToPocket => &[0, 1, 2, 3, 4, 5, 6, 7, 8, 9, 16, 10],
+        }
+    }
+
+    /// The kind of file that it reads, if it reads one.
+    pub fn reads(self) -> Option<Profile> {
+        match self {
+            Call::Check(profile)
+            | Call::Unpack(profile)
+            | Call::Trace(profile)
+            | Call::Reduce(profile) => Some(profile),
+            Call::ToDot | Call::ToPocket => Some(LARGE),
+            Call::ToLarge => Some(POCKET),
+            Call::Pack(_) | Call::FromDot => None,
         }
     }
 }
@@ -63,82 +82,79 @@ pub struct Case {
 }
 
 impl Case {
-    pub fn check(file: Vec<u8>) -> Case {
+    /// Both numbers are 0: pack alone has a use for them.
+    fn of_strings(call: Call, a: Vec<u8>, b: Vec<u8>, c: Vec<u8>) -> Case {
         Case {
-            call: Call::Check,
+            call,
             first: 0,
             second: 0,
-            a: file,
-            b: Vec::new(),
-            c: Vec::new(),
+            a,
+            b,
+            c,
         }
     }
 
-    pub fn unpack(file: Vec<u8>, colour_room: Vec<u8>, edge_room: Vec<u8>) -> Case {
-        Case {
-            call: Call::Unpack,
-            first: 0,
-            second: 0,
-            a: file,
-            b: colour_room,
-            c: edge_room,
-        }
+    pub fn check(profile: Profile, file: Vec<u8>) -> Case {
+        Case::of_strings(Call::Check(profile), file, Vec::new(), Vec::new())
     }
 
-    pub fn pack(colours: Vec<u8>, edges: Vec<u8>, m: u64, start: u64, room: Vec<u8>) -> Case {
+    pub fn unpack(
+        profile: Profile,
+        file: Vec<u8>,
+        colour_room: Vec<u8>,
+        edge_room: Vec<u8>,
+    ) -> Case {
+        Case::of_strings(Call::Unpack(profile), file, colour_room, edge_room)
+    }
+
+    pub fn pack(
+        profile: Profile,
+        colours: Vec<u8>,
+        edges: Vec<u8>,
+        m: u64,
+        start: u64,
+        room: Vec<u8>,
+    ) -> Case {
         Case {
-            call: Call::Pack,
             first: m,
             second: start,
-            a: colours,
-            b: edges,
-            c: room,
+            ..Case::of_strings(Call::Pack(profile), colours, edges, room)
         }
     }
 
-    pub fn trace(file: Vec<u8>, observations: Vec<u8>, colour_room: Vec<u8>) -> Case {
-        Case {
-            call: Call::Trace,
-            first: 0,
-            second: 0,
-            a: file,
-            b: observations,
-            c: colour_room,
-        }
+    pub fn trace(
+        profile: Profile,
+        file: Vec<u8>,
+        observations: Vec<u8>,
+        colour_room: Vec<u8>,
+    ) -> Case {
+        Case::of_strings(Call::Trace(profile), file, observations, colour_room)
     }
 
     /// The class list takes two bytes an entry, big-endian; an odd last byte is no entry.
-    pub fn reduce(file: Vec<u8>, answer_room: Vec<u8>, class_list: Vec<u8>) -> Case {
-        Case {
-            call: Call::Reduce,
-            first: 0,
-            second: 0,
-            a: file,
-            b: answer_room,
-            c: class_list,
-        }
+    pub fn reduce(
+        profile: Profile,
+        file: Vec<u8>,
+        answer_room: Vec<u8>,
+        class_list: Vec<u8>,
+    ) -> Case {
+        Case::of_strings(Call::Reduce(profile), file, answer_room, class_list)
     }
 
     pub fn from_dot(text: Vec<u8>, room: Vec<u8>) -> Case {
-        Case {
-            call: Call::FromDot,
-            first: 0,
-            second: 0,
-            a: text,
-            b: Vec::new(),
-            c: room,
-        }
+        Case::of_strings(Call::FromDot, text, Vec::new(), room)
     }
 
     pub fn to_dot(file: Vec<u8>, room: Vec<u8>) -> Case {
-        Case {
-            call: Call::ToDot,
-            first: 0,
-            second: 0,
-            a: file,
-            b: Vec::new(),
-            c: room,
-        }
+        Case::of_strings(Call::ToDot, file, Vec::new(), room)
+    }
+
+    pub fn to_large(file: Vec<u8>, room: Vec<u8>) -> Case {
+        Case::of_strings(Call::ToLarge, file, Vec::new(), room)
+    }
+
+    pub fn to_pocket(file: Vec<u8>, room: Vec<u8>) -> Case {
+        Case::of_strings(Call::ToPocket, file, Vec::new(), room)
     }
 
     /// Makes the call.
@@ -146,18 +162,20 @@ impl Case {
         let mut b = self.b.clone();
         let mut c = self.c.clone();
         let answer = match self.call {
-            Call::Check => check(&self.a),
-            Call::Unpack => unpack(&self.a, &mut b, &mut c),
-            Call::Pack => pack(&self.a, &self.b, self.first, self.second, &mut c),
-            Call::Trace => trace(&self.a, &self.b, &mut c),
-            Call::Reduce => {
+            Call::Check(profile) => profile.check(&self.a),
+            Call::Unpack(profile) => profile.unpack(&self.a, &mut b, &mut c),
+            Call::Pack(profile) => profile.pack(&self.a, &self.b, self.first, self.second, &mut c),
+            Call::Trace(profile) => profile.trace(&self.a, &self.b, &mut c),
+            Call::Reduce(profile) => {
                 let mut entries = entries_of(&c);
-                let answer = reduce(&self.a, &mut b, &mut entries);
+                let answer = profile.reduce(&self.a, &mut b, &mut entries);
                 put_entries(&entries, &mut c);
                 answer
             }
             Call::FromDot => from_dot(&self.a, &mut c),
             Call::ToDot => to_dot(&self.a, &mut c),
+            Call::ToLarge => to_large(&self.a, &mut c),
+            Call::ToPocket => to_pocket(&self.a, &mut c),
         };
         Outcome { answer, b, c }
     }

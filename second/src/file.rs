@@ -1,6 +1,7 @@
 //! The filter file: fields one after another, most significant bit first, no gaps.
 
 use crate::bits::{bytes_of, push, Bits};
+use crate::profile::{Profile, LARGE};
 
 /// Why a call says no. Only 7, 8 and 9, trace's 13 and the 15 of a text have a place other than 0. That of 7, 8 and 9 is
 /// a bit of the file, or the edge's index where there is no file yet.
@@ -51,79 +52,120 @@ pub struct Header {
     pub e: u64,
 }
 
-impl Header {
-    /// Of a file that is long enough to have one, whatever follows.
-    pub fn of(file: &[u8]) -> Option<Header> {
-        let bytes = file.get(..5)?;
-        Some(Header::eat(&mut Bits::of(bytes)))
+impl Profile {
+    /// The header of a file that is long enough to have one, whatever follows.
+    pub fn header(self, file: &[u8]) -> Option<Header> {
+        let bytes = file.get(..self.header_bytes())?;
+        Some(self.eat_header(&mut Bits::of(bytes)))
     }
 
-    fn eat(bits: &mut Bits) -> Header {
+    fn eat_header(self, bits: &mut Bits) -> Header {
         Header {
-            n: bits.eat(8) + 1,
-            m: bits.eat(6) + 1,
-            start: bits.eat(8),
-            e: bits.eat(15),
+            n: bits.eat(self.states) + 1,
+            m: bits.eat(self.labels) + 1,
+            start: bits.eat(self.start),
+            e: bits.eat(self.edges),
         }
+    }
+
+    /// Reads a file, or says why not.
+    pub fn read(self, bytes: &[u8]) -> Result<Filter, Refusal> {
+        if bytes.len() < self.header_bytes() {
+            return Err(Refusal::new(1));
+        }
+        let mut bits = Bits::of(bytes);
+        let Header { n, m, start, e } = self.eat_header(&mut bits);
+        if start >= n {
+            return Err(Refusal::new(2));
+        }
+        if e > n * m {
+            return Err(Refusal::new(3));
+        }
+        let have = bytes.len() as u64;
+        if have < self.length(n, e) {
+            return Err(Refusal::new(4));
+        }
+        if have > self.length(n, e) {
+            return Err(Refusal::new(5));
+        }
+        let mut colours = Vec::new();
+        for _ in 0..n {
+            colours.push(bits.eat(self.colour));
+        }
+        let mut edges = Vec::new();
+        let mut places = Vec::new();
+        for _ in 0..e {
+            let mut stood = [0; 3];
+            let mut read = [0; 3];
+            let widths = [self.source, self.label, self.target];
+            for (field, width) in widths.into_iter().enumerate() {
+                stood[field] = bits.eaten();
+                read[field] = bits.eat(width);
+            }
+            let [source, label, target] = read;
+            edges.push(Edge {
+                source,
+                label,
+                target,
+            });
+            places.push(stood);
+        }
+        if bits.rest().contains(&true) {
+            return Err(Refusal::new(6));
+        }
+        judge_edges(&edges, &places, n, m)?;
+        Ok(Filter {
+            colours,
+            m,
+            start,
+            edges,
+        })
+    }
+
+    /// Writes the fields as they are; it judges nothing.
+    pub fn write(self, filter: &Filter) -> Vec<u8> {
+        bytes_of(&self.fields(filter, filter.e()))
+    }
+
+    /// All bits of the file but the filling ones, with `e` as the header's number of edges.
+    pub fn fields(self, filter: &Filter, e: u64) -> Vec<bool> {
+        let mut row = Vec::new();
+        self.push_header(
+            &mut row,
+            Header {
+                n: filter.n(),
+                m: filter.m,
+                start: filter.start,
+                e,
+            },
+        );
+        for &colour in &filter.colours {
+            push(&mut row, colour, self.colour);
+        }
+        for edge in &filter.edges {
+            push(&mut row, edge.source, self.source);
+            push(&mut row, edge.label, self.label);
+            push(&mut row, edge.target, self.target);
+        }
+        row
+    }
+
+    pub fn push_header(self, row: &mut Vec<bool>, header: Header) {
+        push(row, header.n - 1, self.states);
+        push(row, header.m - 1, self.labels);
+        push(row, header.start, self.start);
+        push(row, header.e, self.edges);
     }
 }
 
-/// The bytes that a file of n states and e edges has.
-pub fn length(n: u64, e: u64) -> u64 {
-    (37 + 6 * n + 22 * e).div_ceil(8)
-}
-
-/// Reads a file, or says why not.
+/// Reads a large file, which is what the programs and the drawings take.
 pub fn read(bytes: &[u8]) -> Result<Filter, Refusal> {
-    if bytes.len() < 5 {
-        return Err(Refusal::new(1));
-    }
-    let mut bits = Bits::of(bytes);
-    let Header { n, m, start, e } = Header::eat(&mut bits);
-    if start >= n {
-        return Err(Refusal::new(2));
-    }
-    if e > n * m {
-        return Err(Refusal::new(3));
-    }
-    let have = bytes.len() as u64;
-    if have < length(n, e) {
-        return Err(Refusal::new(4));
-    }
-    if have > length(n, e) {
-        return Err(Refusal::new(5));
-    }
-    let mut colours = Vec::new();
-    for _ in 0..n {
-        colours.push(bits.eat(6));
-    }
-    let mut edges = Vec::new();
-    let mut places = Vec::new();
-    for _ in 0..e {
-        let mut stood = [0; 3];
-        let mut read = [0; 3];
-        for (field, width) in [8, 6, 8].into_iter().enumerate() {
-            stood[field] = bits.eaten();
-            read[field] = bits.eat(width);
-        }
-        let [source, label, target] = read;
-        edges.push(Edge {
-            source,
-            label,
-            target,
-        });
-        places.push(stood);
-    }
-    if bits.rest().contains(&true) {
-        return Err(Refusal::new(6));
-    }
-    judge_edges(&edges, &places, n, m)?;
-    Ok(Filter {
-        colours,
-        m,
-        start,
-        edges,
-    })
+    LARGE.read(bytes)
+}
+
+/// Writes a large one.
+pub fn write(filter: &Filter) -> Vec<u8> {
+    LARGE.write(filter)
 }
 
 /// Of edges that stand in a list: a fault's place is the edge's index.
@@ -157,27 +199,4 @@ fn judge_edges(edges: &[Edge], places: &[[u64; 3]], n: u64, m: u64) -> Result<()
         before = own;
     }
     Ok(())
-}
-
-/// Writes the fields as they are; it judges nothing.
-pub fn write(filter: &Filter) -> Vec<u8> {
-    bytes_of(&fields(filter, filter.e()))
-}
-
-/// All bits of the file but the filling ones, with `e` as the header's number of edges.
-pub fn fields(filter: &Filter, e: u64) -> Vec<bool> {
-    let mut row = Vec::new();
-    push(&mut row, filter.n() - 1, 8);
-    push(&mut row, filter.m - 1, 6);
-    push(&mut row, filter.start, 8);
-    push(&mut row, e, 15);
-    for &colour in &filter.colours {
-        push(&mut row, colour, 6);
-    }
-    for edge in &filter.edges {
-        push(&mut row, edge.source, 8);
-        push(&mut row, edge.label, 6);
-        push(&mut row, edge.target, 8);
-    }
-    row
 }

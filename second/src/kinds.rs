@@ -3,18 +3,24 @@
 use crate::call::DROPPED;
 use crate::case::{entries_of, Call, Case, Outcome};
 use crate::dot::{self, labels_up_to, Drawing};
-use crate::file::{read, Header};
-use crate::make::groups::MANY_GROUPS;
+use crate::file::{read, Filter, Header};
+use crate::make::groups::many_groups;
+use crate::profile::{Profile, POCKET};
+use crate::reach::reached;
 use crate::reduce::{groups_made, stages};
 use crate::trace::MOST_OBSERVATIONS;
+use std::collections::BTreeSet;
 
+/// Of the outcome of some call, which goes without saying.
 #[derive(Clone, Copy, Debug, PartialEq, Eq, PartialOrd, Ord)]
 pub enum Kind {
-    Number(Call, u8),
+    Number(u8),
     /// A refusal that names an edge or an observation.
-    At(Call, u8, Where),
+    At(u8, Where),
     /// A file's 7 by this field of an edge.
-    AtField(Call, Field, Where),
+    AtField(Field, Where),
+    /// Accepted with as many states, labels and edges as there can be, and the highest colour.
+    Largest,
     Traced,
     /// Traced without any observation.
     StartAlone,
@@ -54,10 +60,49 @@ pub enum Kind {
     /// A filter's 15.
     OtherStart,
     UnusedLabel,
+    /// A large file's 16: by these of n, m and the colours.
+    TooLarge {
+        states: bool,
+        labels: bool,
+        colours: bool,
+    },
+    /// By one colour alone, of a state that stands here, and of one that the start does not lead to.
+    OneHighColour(Where),
+    OfALeftover,
+    /// In no room at all.
+    WithoutRoom,
 }
 
-/// So many rounds are many; 254 is the most that there can be.
-pub const MANY_ROUNDS: u64 = 200;
+/// The kinds that were hit, by call.
+#[derive(Debug, Default)]
+pub struct Seen(BTreeSet<(Call, Kind)>);
+
+impl Seen {
+    pub fn add(&mut self, call: Call, kinds: Vec<Kind>) {
+        self.0.extend(kinds.into_iter().map(|kind| (call, kind)));
+    }
+
+    /// What no case has led to.
+    pub fn missing(&self) -> Vec<(Call, Kind)> {
+        let of_call = |call| all_of(call).into_iter().map(move |kind| (call, kind));
+        let all = Call::ALL.into_iter().flat_map(of_call);
+        all.filter(|kind| !self.0.contains(kind)).collect()
+    }
+
+    /// Numbers that came though the call cannot answer with them.
+    pub fn beyond(&self) -> Vec<(Call, u8)> {
+        let number = |&(call, kind): &(Call, Kind)| match kind {
+            Kind::Number(number) if !call.numbers().contains(&number) => Some((call, number)),
+            _ => None,
+        };
+        self.0.iter().filter_map(number).collect()
+    }
+}
+
+/// So many rounds are many; two less than the states are the most that there can be.
+pub fn many_rounds(profile: Profile) -> u64 {
+    profile.most_states() * 4 / 5
+}
 
 /// Where something stands among its like.
 #[derive(Clone, Copy, Debug, PartialEq, Eq, PartialOrd, Ord)]
@@ -81,120 +126,189 @@ impl Where {
     }
 }
 
-/// A field of an edge, by how many of the edge's bits stand before it.
+/// A field of an edge.
 #[derive(Clone, Copy, Debug, PartialEq, Eq, PartialOrd, Ord)]
 pub enum Field {
-    Source = 0,
-    Label = 8,
-    Target = 14,
+    Source,
+    Label,
+    Target,
 }
 
 impl Field {
     pub const ALL: [Field; 3] = [Field::Source, Field::Label, Field::Target];
+
+    /// How many of the edge's bits stand before it.
+    pub fn within(self, profile: Profile) -> u64 {
+        let before = match self {
+            Field::Source => 0,
+            Field::Label => profile.source,
+            Field::Target => profile.source + profile.label,
+        };
+        before as u64
+    }
 }
 
 /// All kinds that a call has.
 pub fn all_of(call: Call) -> Vec<Kind> {
-    let mut all = Vec::new();
-    for &number in call.numbers() {
-        all.push(Kind::Number(call, number));
-    }
+    let mut all: Vec<Kind> = call.numbers().iter().copied().map(Kind::Number).collect();
     // The first edge has none before it, so it can only have 7.
-    all.push(Kind::At(call, 7, Where::First));
+    all.push(Kind::At(7, Where::First));
     for number in 7..=9 {
-        all.push(Kind::At(call, number, Where::Middle));
-        all.push(Kind::At(call, number, Where::Last));
+        all.push(Kind::At(number, Where::Middle));
+        all.push(Kind::At(number, Where::Last));
     }
-    if reads_a_file(call) {
+    if call.reads().is_some() {
         for field in Field::ALL {
-            all.extend(Where::ALL.map(|place| Kind::AtField(call, field, place)));
+            all.extend(Where::ALL.map(|place| Kind::AtField(field, place)));
         }
     }
-    if call == Call::Trace {
-        all.extend(Where::ALL.map(|place| Kind::At(call, 13, place)));
-        all.extend(Where::ALL.map(Kind::Stopped));
-        all.extend([
-            Kind::Traced,
-            Kind::StartAlone,
-            Kind::TooMany,
-            Kind::ShortRoom,
-        ]);
+    if held_by(call).is_some() {
+        all.push(Kind::Largest);
     }
-    if call == Call::Reduce {
-        all.extend([
-            Kind::BothShort,
-            Kind::NoRound,
-            Kind::ManyRounds,
-            Kind::NothingMerged,
-            Kind::Merged,
-            Kind::NothingDropped,
-            Kind::DroppedBefore,
-            Kind::DroppedBetween,
-            Kind::DroppedBehind,
-            Kind::AllButOneDropped,
-        ]);
-        all.extend(MANY_GROUPS.map(Kind::Groups));
-        all.extend([0, 1, 2, 3].map(Kind::JoinedInWord));
-    }
-    if call == Call::FromDot {
-        all.extend([
-            Kind::AtOnce,
-            Kind::Inside,
-            Kind::Behind,
-            Kind::CutOff,
-            Kind::NoStates,
-            Kind::ManyStates,
-            Kind::HighColour,
-            Kind::HighLabel,
-            Kind::EndOfAByte,
-            Kind::HighEnd,
-        ]);
-    }
-    if call == Call::ToDot {
-        all.extend([Kind::OtherStart, Kind::UnusedLabel]);
+    all.extend(match call {
+        Call::Check(_) | Call::Unpack(_) | Call::Pack(_) | Call::ToLarge => Vec::new(),
+        Call::Trace(_) => all_of_trace(),
+        Call::Reduce(profile) => all_of_reduce(profile),
+        Call::FromDot => all_of_text(),
+        Call::ToDot => vec![Kind::OtherStart, Kind::UnusedLabel],
+        Call::ToPocket => all_of_too_large(),
+    });
+    all
+}
+
+fn all_of_trace() -> Vec<Kind> {
+    let mut all = vec![
+        Kind::Traced,
+        Kind::StartAlone,
+        Kind::TooMany,
+        Kind::ShortRoom,
+    ];
+    all.extend(Where::ALL.map(|place| Kind::At(13, place)));
+    all.extend(Where::ALL.map(Kind::Stopped));
+    all
+}
+
+fn all_of_reduce(profile: Profile) -> Vec<Kind> {
+    let mut all = vec![
+        Kind::BothShort,
+        Kind::NoRound,
+        Kind::ManyRounds,
+        Kind::NothingMerged,
+        Kind::Merged,
+        Kind::NothingDropped,
+        Kind::DroppedBefore,
+        Kind::DroppedBetween,
+        Kind::DroppedBehind,
+        Kind::AllButOneDropped,
+    ];
+    all.extend(many_groups(profile).into_iter().map(Kind::Groups));
+    let words = profile.most_states().div_ceil(64);
+    all.extend((0..words as usize).map(Kind::JoinedInWord));
+    all
+}
+
+fn all_of_text() -> Vec<Kind> {
+    vec![
+        Kind::AtOnce,
+        Kind::Inside,
+        Kind::Behind,
+        Kind::CutOff,
+        Kind::NoStates,
+        Kind::ManyStates,
+        Kind::HighColour,
+        Kind::HighLabel,
+        Kind::EndOfAByte,
+        Kind::HighEnd,
+    ]
+}
+
+fn all_of_too_large() -> Vec<Kind> {
+    let mut all = vec![Kind::OfALeftover, Kind::WithoutRoom];
+    all.extend(Where::ALL.map(Kind::OneHighColour));
+    for reasons in 1..8 {
+        all.push(Kind::TooLarge {
+            states: reasons & 1 != 0,
+            labels: reasons & 2 != 0,
+            colours: reasons & 4 != 0,
+        });
     }
     all
 }
 
 /// The kinds that this outcome is of.
 pub fn of(case: &Case, outcome: &Outcome) -> Vec<Kind> {
-    let call = case.call;
     let answer = outcome.answer;
-    let mut kinds = vec![Kind::Number(call, answer.number)];
+    let mut kinds = vec![Kind::Number(answer.number)];
     if (7..=9).contains(&answer.number) {
         let (edge, field) = faulty_field(case, answer.place);
         let place = Where::of(edge, edges_of(case));
-        kinds.push(Kind::At(call, answer.number, place));
+        kinds.push(Kind::At(answer.number, place));
         if answer.number == 7 {
-            kinds.extend(field.map(|field| Kind::AtField(call, field, place)));
+            kinds.extend(field.map(|field| Kind::AtField(field, place)));
         }
     }
-    match call {
-        Call::Trace => kinds.extend(of_trace(case, outcome)),
-        Call::Reduce => kinds.extend(of_reduce(case, outcome)),
+    if answer.number == 0 && is_largest(case) {
+        kinds.push(Kind::Largest);
+    }
+    match case.call {
+        Call::Trace(_) => kinds.extend(of_trace(case, outcome)),
+        Call::Reduce(profile) => kinds.extend(of_reduce(profile, case, outcome)),
         Call::FromDot => kinds.extend(of_text(case, outcome)),
         Call::ToDot => kinds.extend(of_drawn(case, outcome)),
-        Call::Check | Call::Unpack | Call::Pack => {}
+        Call::ToPocket => kinds.extend(of_too_large(case, outcome)),
+        Call::Check(_) | Call::Unpack(_) | Call::Pack(_) | Call::ToLarge => {}
     }
     kinds
 }
 
-fn reads_a_file(call: Call) -> bool {
-    ![Call::Pack, Call::FromDot].contains(&call)
-}
-
 /// The edge at fault; and which of its fields, where the place is a bit of a file.
 fn faulty_field(case: &Case, place: u64) -> (u64, Option<Field>) {
-    if !reads_a_file(case.call) {
+    let Some(profile) = case.call.reads() else {
         return (place, None);
-    }
-    let n = Header::of(&case.a).expect("a header").n;
-    let bit = place - 37 - 6 * n;
+    };
+    let n = profile.header(&case.a).expect("a header").n;
+    let bit = place - profile.edges_at(n);
+    let width = profile.edge_bits() as u64;
     let field = Field::ALL
         .into_iter()
-        .find(|&field| field as u64 == bit % 22)
+        .find(|&field| field.within(profile) == bit % width)
         .expect("the first bit of a field");
-    (bit / 22, Some(field))
+    (bit / width, Some(field))
+}
+
+/// The profile whose limits bound what the call accepts. Texts are left to those who count them.
+fn held_by(call: Call) -> Option<Profile> {
+    match call {
+        Call::FromDot | Call::ToDot => None,
+        Call::Pack(profile) => Some(profile),
+        // The smaller of the two that it has to do with.
+        Call::ToPocket => Some(POCKET),
+        _ => call.reads(),
+    }
+}
+
+/// Of an accepted case.
+fn is_largest(case: &Case) -> bool {
+    let Some(held_by) = held_by(case.call) else {
+        return false;
+    };
+    let most = (
+        held_by.most_states(),
+        held_by.most_labels(),
+        held_by.most_edges(),
+    );
+    let top = held_by.top_colour();
+    match case.call.reads() {
+        Some(profile) => {
+            let Header { n, m, e, .. } = profile.header(&case.a).expect("a header");
+            let colours = || profile.read(&case.a).expect("accepted").colours;
+            (n, m, e) == most && colours().contains(&top)
+        }
+        None => {
+            let sizes = (case.a.len() as u64, case.first, edges_of(case));
+            sizes == most && case.a.contains(&(top as u8))
+        }
+    }
 }
 
 fn of_trace(case: &Case, outcome: &Outcome) -> Option<Kind> {
@@ -207,13 +321,13 @@ fn of_trace(case: &Case, outcome: &Outcome) -> Option<Kind> {
         0 => Some(Kind::Traced),
         12 if case.c.len() > observations => Some(Kind::TooMany),
         12 if observations <= MOST_OBSERVATIONS => Some(Kind::ShortRoom),
-        13 => Some(Kind::At(case.call, 13, place(answer.place))),
+        13 => Some(Kind::At(13, place(answer.place))),
         _ => None,
     }
 }
 
-fn of_reduce(case: &Case, outcome: &Outcome) -> Vec<Kind> {
-    let n = Header::of(&case.a).map_or(0, |header| header.n);
+fn of_reduce(profile: Profile, case: &Case, outcome: &Outcome) -> Vec<Kind> {
+    let n = profile.header(&case.a).map_or(0, |header| header.n);
     let [states, colours, rounds, _] = outcome.answer.counts;
     let mut kinds = Vec::new();
     match outcome.answer.number {
@@ -221,7 +335,7 @@ fn of_reduce(case: &Case, outcome: &Outcome) -> Vec<Kind> {
             if rounds == 0 {
                 kinds.push(Kind::NoRound);
             }
-            if rounds >= MANY_ROUNDS {
+            if rounds >= many_rounds(profile) {
                 kinds.push(Kind::ManyRounds);
             }
             let list = &entries_of(&outcome.c)[..n as usize];
@@ -234,8 +348,9 @@ fn of_reduce(case: &Case, outcome: &Outcome) -> Vec<Kind> {
             });
             kinds.extend(of_dropped(&dropped));
             // Each round makes one class more at least, so that only few reductions can have had one with many groups.
-            if states + 2 >= colours + rounds + MANY_GROUPS[0] {
-                kinds.extend(of_groups(&case.a));
+            if states + 2 >= colours + rounds + many_groups(profile)[0] {
+                let filter = profile.read(&case.a).expect("an accepted file");
+                kinds.extend(of_groups(&filter));
             }
         }
         10 if (case.c.len() as u64) < 2 * n => kinds.push(Kind::BothShort),
@@ -244,10 +359,9 @@ fn of_reduce(case: &Case, outcome: &Outcome) -> Vec<Kind> {
     kinds
 }
 
-fn of_groups(file: &[u8]) -> Vec<Kind> {
-    let filter = read(file).expect("an accepted file");
+fn of_groups(filter: &Filter) -> Vec<Kind> {
     let mut kinds = Vec::new();
-    for groups in groups_made(&stages(&filter)) {
+    for groups in groups_made(&stages(filter)) {
         kinds.push(Kind::Groups(groups.len() as u64));
         for (number, two) in groups.windows(2).enumerate() {
             if two[0].last() > two[1].first() {
@@ -339,12 +453,41 @@ fn of_drawn(case: &Case, outcome: &Outcome) -> Option<Kind> {
     }
 }
 
-fn edges_of(case: &Case) -> u64 {
-    match case.call {
-        Call::Check | Call::Unpack | Call::Trace | Call::Reduce | Call::ToDot => {
-            Header::of(&case.a).map_or(0, |header| header.e)
+/// Why a large file is none that a pocket file can stand for.
+fn of_too_large(case: &Case, outcome: &Outcome) -> Vec<Kind> {
+    if outcome.answer.number != 16 {
+        return Vec::new();
+    }
+    let filter = read(&case.a).expect("an accepted file");
+    let high: Vec<u64> = (0..)
+        .zip(&filter.colours)
+        .filter(|&(_, &colour)| colour > POCKET.top_colour())
+        .map(|(state, _)| state)
+        .collect();
+    let states = filter.n() > POCKET.most_states();
+    let labels = filter.m > POCKET.most_labels();
+    let colours = !high.is_empty();
+    let mut kinds = vec![Kind::TooLarge {
+        states,
+        labels,
+        colours,
+    }];
+    if case.c.is_empty() {
+        kinds.push(Kind::WithoutRoom);
+    }
+    if let ([state], false, false) = (&high[..], states, labels) {
+        kinds.push(Kind::OneHighColour(Where::of(*state, filter.n())));
+        if !reached(&filter).contains(state) {
+            kinds.push(Kind::OfALeftover);
         }
-        Call::Pack => case.b.len() as u64 / 3,
-        Call::FromDot => drawing_of(case).edges.len() as u64,
+    }
+    kinds
+}
+
+fn edges_of(case: &Case) -> u64 {
+    match (case.call, case.call.reads()) {
+        (_, Some(profile)) => profile.header(&case.a).map_or(0, |header| header.e),
+        (Call::FromDot, None) => drawing_of(case).edges.len() as u64,
+        (_, None) => case.b.len() as u64 / 3,
     }
 }

@@ -3,7 +3,7 @@
 //! It does what documents 01 and 02 say, written from them alone and as plainly as possible, so that it can be compared
 //! byte for byte with the proved programs. It shares no line with the crates of those programs.
 //!
-//! - [`bits`], [`file`]: the filter file, read and written;
+//! - [`bits`], [`profile`], [`file`]: the two kinds of filter file, read and written;
 //! - [`dot`], [`dot::by_force`]: filters drawn as texts, and by force where a text leaves their profile;
 //! - [`trace`]: a ride through a filter;
 //! - [`reach`], [`reduce`], [`rounds`]: the states that its start reaches, its reduction, and that round by round as text;
@@ -33,6 +33,7 @@ pub mod file;
 pub mod frame;
 pub mod kinds;
 pub mod make;
+pub mod profile;
 pub mod program;
 pub mod proved;
 pub mod random;

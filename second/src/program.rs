@@ -1,6 +1,7 @@
-//! What the programs print.
+//! What the programs print, which take large files alone.
 
 use crate::file::{read, write, Filter, Refusal};
+use crate::profile::LARGE;
 use crate::reduce::{self, Reduced};
 use crate::trace;
 
@@ -14,7 +15,7 @@ pub const MOST_OF_THE_OBSERVATIONS: usize = 65_536;
 pub fn trace(file: &[u8], input: &[u8]) -> String {
     let file = up_to(MOST_OF_A_FILE, file);
     let observations = up_to(MOST_OF_THE_OBSERVATIONS, input);
-    let ride = match trace::trace(file, observations, observations.len() + 1) {
+    let ride = match trace::trace(LARGE, file, observations, observations.len() + 1) {
         Ok(ride) => ride,
         Err(refusal) => return refusal_line(refusal),
     };

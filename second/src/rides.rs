@@ -1,5 +1,5 @@
 //! Document 01's rides: the files and lists byte for byte, and the filters of which it gives no bytes; two of the files as
-//! document 02 has them drawn. Then two filters for one of the errors that look right.
+//! document 02 has them drawn, and three as pocket files. Then two filters for one of the errors that look right.
 
 use crate::file::{Edge, Filter};
 
@@ -20,6 +20,11 @@ pub const K_REDUCED: &[u8] = &[
     0x01, 0x04, 0x00, 0x00, 0x20, 0x00, 0x80, 0x00, 0x02, 0x00, 0x08, 0x08, 0x08, 0x00, 0x00, 0x20,
     0x80, 0x00,
 ];
+
+/// C and K as pocket files, which the documents do not give: tests/pocket.rs writes them out by hand.
+pub const C_POCKET: &[u8] = &[0; 3];
+pub const K_POCKET: &[u8] = &[0x22, 0x00, 0x80, 0x22, 0x00, 0x40, 0x90, 0x80, 0x22, 0x00];
+pub const K_REDUCED_POCKET: &[u8] = &[0x12, 0x00, 0x80, 0x20, 0x04, 0x08, 0x88, 0x01, 0x20];
 
 /// P itself is given by colours and edges; document 02 makes one state of it, with the edge of state 0.
 pub const P: &[u8] = &[
@@ -66,6 +71,14 @@ pub const Q_LABEL_OUTSIDE: &[u8] = &[0, 2, 1];
 pub const Q_DESCENDING: &[u8] = &[0, 1, 2, 0, 0, 1];
 pub const Q_REPEATED: &[u8] = &[0, 0, 1, 0, 0, 2];
 
+pub fn edge(source: u64, label: u64, target: u64) -> Edge {
+    Edge {
+        source,
+        label,
+        target,
+    }
+}
+
 /// With start 0 and the largest label plus one as m, as L to P have them.
 pub fn filter_of(colours: &[u64], edges: &[(u64, u64, u64)]) -> Filter {
     let labels = edges.iter().map(|&(_, label, _)| label);
@@ -75,11 +88,7 @@ pub fn filter_of(colours: &[u64], edges: &[(u64, u64, u64)]) -> Filter {
         start: 0,
         edges: edges
             .iter()
-            .map(|&(source, label, target)| Edge {
-                source,
-                label,
-                target,
-            })
+            .map(|&(source, label, target)| edge(source, label, target))
             .collect(),
     }
 }

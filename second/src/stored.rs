@@ -1,67 +1,35 @@
 //! The batch that is stored beside `answers`: small, and the same in every run.
 
-use crate::call::check;
 use crate::case::Case;
-use crate::file::{length, write, Edge, Filter};
+use crate::file::{read, Filter};
 use crate::make::chains;
+use crate::make::conversions::{conversion, other};
+use crate::profile::{Profile, LARGE, POCKET, PROFILES};
 use crate::rides::*;
 
 pub fn cases() -> Vec<Case> {
     let mut cases = Vec::new();
-    for file in [A, B, C, D, E, F, G, H, K, K_REDUCED] {
-        cases.push(Case::check(file.to_vec()));
+    for profile in PROFILES {
+        let calls = Calls { profile };
+        cases.extend(calls.of_k());
+        cases.extend(calls.of_refused_files());
+        cases.extend(calls.refused_by_pack());
+        cases.extend(calls.traces());
+        cases.extend(calls.rooms_of_a_reduction());
+        cases.extend(calls.reduces());
+        cases.extend(calls.longer());
+        cases.extend(calls.conversions());
     }
-    for (colours, edges) in [(2, 12), (3, 11), (3, 12), (5, 20)] {
-        cases.push(unpack(K, colours, edges));
-    }
-    cases.push(unpack(K_REDUCED, 2, 12));
-    cases.extend(ride_q());
-    for (file, colours, edges) in [
-        (K, K_COLOURS, K_EDGES),
-        (K_REDUCED, K_REDUCED_COLOURS, K_REDUCED_EDGES),
-    ] {
-        cases.push(pack(colours, edges, 2, 0, file.len()));
-        cases.push(pack(colours, edges, 2, 0, file.len() + 9));
-    }
-    cases.push(pack(K_COLOURS, K_EDGES, 2, 0, K.len() - 1));
-    for file in refused() {
-        cases.push(Case::check(file.clone()));
-        cases.push(unpack(&file, 3, 12));
-        cases.push(trace(&file, K_OBSERVATIONS, 3));
-        cases.push(reduce(&file, file.len(), 6));
-        cases.push(to_dot(&file, K_DRAWN.len()));
-    }
-    cases.extend(refused_by_pack());
-    cases.extend(traces());
-    cases.extend(ride_r_reduced());
-    cases.extend(reduces());
+    cases.extend(too_large());
     cases.extend(drawings());
     cases.extend(texts_outside());
     cases.extend(texts_refused_by_pack());
-    cases.extend(longer());
     cases
 }
 
 /// A room as found: not of zeros, and no two bytes near each other alike.
 fn found(length: usize) -> Vec<u8> {
     (0..length).map(|i| 0xa0 + (i % 89) as u8).collect()
-}
-
-fn unpack(file: &[u8], colours: usize, edges: usize) -> Case {
-    Case::unpack(file.to_vec(), found(colours), found(edges))
-}
-
-fn pack(colours: &[u8], edges: &[u8], m: u64, start: u64, room: usize) -> Case {
-    Case::pack(colours.to_vec(), edges.to_vec(), m, start, found(room))
-}
-
-fn trace(file: &[u8], observations: &[u8], room: usize) -> Case {
-    Case::trace(file.to_vec(), observations.to_vec(), found(room))
-}
-
-/// Both rooms in bytes.
-fn reduce(file: &[u8], answer_room: usize, class_list: usize) -> Case {
-    Case::reduce(file.to_vec(), found(answer_room), found(class_list))
 }
 
 fn from_dot(text: &str, room: usize) -> Case {
@@ -72,188 +40,392 @@ fn to_dot(file: &[u8], room: usize) -> Case {
     Case::to_dot(file.to_vec(), found(room))
 }
 
-fn ride_q() -> Vec<Case> {
-    vec![
-        pack(K_COLOURS, Q_LABEL_OUTSIDE, 2, 0, 10),
-        pack(K_COLOURS, Q_DESCENDING, 2, 0, 13),
-        pack(K_COLOURS, Q_REPEATED, 2, 0, 13),
-        pack(K_COLOURS, K_EDGES, 2, 3, 18),
-        pack(&[0, 64, 1], K_EDGES, 2, 0, 18),
-        pack(&[0; 257], K_EDGES, 2, 0, 209),
-    ]
+/// K's colours, m = 2 and start 0, with these edges.
+fn k_with(edges: &[[u64; 3]]) -> Filter {
+    let edge = |&[source, label, target]: &[u64; 3]| edge(source, label, target);
+    Filter {
+        colours: vec![0, 1, 1],
+        m: 2,
+        start: 0,
+        edges: edges.iter().map(edge).collect(),
+    }
 }
 
-/// A file for each refusal from 1 to 9, K spoilt where the rides have none.
-fn refused() -> Vec<Vec<u8>> {
-    let mut files: Vec<Vec<u8>> = [A, B, D, E, F, G, H].map(<[u8]>::to_vec).to_vec();
-    files.push(K[..17].to_vec());
-    let mut filling = K.to_vec();
-    filling[17] = 1;
-    files.push(filling);
-    for edges in [
-        // 7 by source, label and target; 8; 9 with other and with equal targets; 7 before 8 and 9 in one edge.
-        [[3, 0, 1], [0, 1, 2], [1, 0, 0], [2, 1, 0]],
-        [[0, 0, 1], [0, 2, 2], [1, 0, 0], [2, 1, 0]],
-        [[0, 0, 1], [0, 1, 2], [1, 0, 0], [2, 1, 3]],
-        [[0, 0, 1], [1, 0, 0], [0, 1, 2], [2, 1, 0]],
-        [[0, 0, 1], [0, 1, 2], [2, 1, 0], [2, 0, 0]],
-        [[0, 0, 1], [0, 1, 2], [0, 1, 1], [2, 1, 0]],
-        [[0, 0, 1], [0, 1, 2], [1, 0, 0], [1, 0, 0]],
-        [[0, 1, 1], [0, 0, 3], [1, 0, 0], [2, 1, 0]],
-        [[0, 1, 1], [0, 1, 3], [1, 0, 0], [2, 1, 0]],
-        // 7 by two fields of an edge and by all three, of which the first is named; and in two edges.
-        [[0, 0, 1], [3, 2, 0], [1, 0, 0], [2, 1, 0]],
-        [[0, 0, 1], [0, 1, 2], [3, 0, 3], [2, 1, 0]],
-        [[0, 0, 1], [0, 1, 2], [1, 0, 0], [2, 2, 3]],
-        [[3, 2, 3], [0, 1, 2], [1, 0, 0], [2, 1, 0]],
-        [[0, 0, 1], [0, 1, 3], [3, 0, 0], [2, 1, 0]],
-    ] {
-        files.push(write(&Filter {
-            colours: vec![0, 1, 1],
-            m: 2,
-            start: 0,
-            edges: edges
-                .iter()
-                .map(|&[source, label, target]| Edge {
-                    source,
-                    label,
-                    target,
-                })
+/// The calls of one kind of file, with rooms given by their lengths.
+struct Calls {
+    profile: Profile,
+}
+
+impl Calls {
+    fn check(&self, file: &[u8]) -> Case {
+        Case::check(self.profile, file.to_vec())
+    }
+
+    fn unpack(&self, file: &[u8], colours: usize, edges: usize) -> Case {
+        Case::unpack(self.profile, file.to_vec(), found(colours), found(edges))
+    }
+
+    fn pack(&self, colours: &[u8], edges: &[u8], m: u64, start: u64, room: usize) -> Case {
+        let (colours, edges) = (colours.to_vec(), edges.to_vec());
+        Case::pack(self.profile, colours, edges, m, start, found(room))
+    }
+
+    fn trace(&self, file: &[u8], observations: &[u8], room: usize) -> Case {
+        Case::trace(
+            self.profile,
+            file.to_vec(),
+            observations.to_vec(),
+            found(room),
+        )
+    }
+
+    /// Both rooms in bytes.
+    fn reduce(&self, file: &[u8], answer_room: usize, class_list: usize) -> Case {
+        let (answer_room, class_list) = (found(answer_room), found(class_list));
+        Case::reduce(self.profile, file.to_vec(), answer_room, class_list)
+    }
+
+    fn convert(&self, file: &[u8], room: usize) -> Case {
+        conversion(self.profile, file.to_vec(), found(room))
+    }
+
+    /// Of one kind of file the first, of the other the second.
+    fn either<T>(&self, of_large: T, of_pocket: T) -> T {
+        match self.profile {
+            POCKET => of_pocket,
+            _ => of_large,
+        }
+    }
+
+    fn c(&self) -> &'static [u8] {
+        self.either(C, C_POCKET)
+    }
+
+    fn k(&self) -> &'static [u8] {
+        self.either(K, K_POCKET)
+    }
+
+    fn k_reduced(&self) -> &'static [u8] {
+        self.either(K_REDUCED, K_REDUCED_POCKET)
+    }
+
+    /// The document's rides with K, Q's lists among them.
+    fn of_k(&self) -> Vec<Case> {
+        let mut cases = Vec::new();
+        for file in [self.c(), self.k(), self.k_reduced()] {
+            cases.push(self.check(file));
+        }
+        for (colours, edges) in [(2, 12), (3, 11), (3, 12), (5, 20)] {
+            cases.push(self.unpack(self.k(), colours, edges));
+        }
+        cases.push(self.unpack(self.k_reduced(), 2, 12));
+        let too_high = self.profile.top_colour() as u8 + 1;
+        let too_many = vec![0; self.profile.most_states() as usize + 1];
+        let room = self.k().len();
+        cases.extend([
+            self.pack(K_COLOURS, Q_LABEL_OUTSIDE, 2, 0, room),
+            self.pack(K_COLOURS, Q_DESCENDING, 2, 0, room),
+            self.pack(K_COLOURS, Q_REPEATED, 2, 0, room),
+            self.pack(K_COLOURS, K_EDGES, 2, 3, room),
+            self.pack(&[0, too_high, 1], K_EDGES, 2, 0, room),
+            self.pack(&too_many, K_EDGES, 2, 0, 209),
+        ]);
+        for (file, colours, edges) in [
+            (self.k(), K_COLOURS, K_EDGES),
+            (self.k_reduced(), K_REDUCED_COLOURS, K_REDUCED_EDGES),
+        ] {
+            cases.push(self.pack(colours, edges, 2, 0, file.len()));
+            cases.push(self.pack(colours, edges, 2, 0, file.len() + 9));
+        }
+        cases.push(self.pack(K_COLOURS, K_EDGES, 2, 0, room - 1));
+        cases
+    }
+
+    fn of_refused_files(&self) -> Vec<Case> {
+        let mut cases = Vec::new();
+        for file in self.refused() {
+            cases.push(self.check(&file));
+            cases.push(self.unpack(&file, 3, 12));
+            cases.push(self.trace(&file, K_OBSERVATIONS, 3));
+            cases.push(self.reduce(&file, file.len(), 6));
+            cases.push(self.convert(&file, 20));
+            if self.profile == LARGE {
+                cases.push(to_dot(&file, K_DRAWN.len()));
+            }
+        }
+        cases
+    }
+
+    /// A file for each refusal from 1 to 9, K spoilt where the rides have none. The small pocket files stand for the rides: the
+    /// start is 1, e is 2 and 1, and the filling bit is 1.
+    fn refused(&self) -> Vec<Vec<u8>> {
+        let small: [&[u8]; 7] = self.either(
+            [A, B, D, E, F, G, H],
+            [
+                A,
+                &[0; 2],
+                &[0; 4],
+                &[0x00, 0x20, 0x00],
+                &[0x00, 0x00, 0x40],
+                &[0x00, 0x00, 0x20],
+                &[0x00, 0x00, 0x01],
+            ],
+        );
+        let mut files: Vec<Vec<u8>> = small.map(<[u8]>::to_vec).to_vec();
+        let k = self.k();
+        files.push(k[..k.len() - 1].to_vec());
+        let mut filling = k.to_vec();
+        filling[k.len() - 1] |= 1;
+        files.push(filling);
+        for edges in [
+            // 7 by source, label and target alone; 8; 9 with other and with equal targets; 7 before 8 and 9 in one edge.
+            [[0, 0, 1], [3, 1, 2], [1, 0, 0], [2, 1, 0]],
+            [[0, 0, 1], [0, 2, 2], [1, 0, 0], [2, 1, 0]],
+            [[0, 0, 1], [0, 1, 2], [1, 0, 0], [2, 2, 0]],
+            [[0, 0, 1], [0, 1, 2], [1, 0, 0], [2, 1, 3]],
+            [[0, 0, 1], [1, 0, 0], [0, 1, 2], [2, 1, 0]],
+            [[0, 0, 1], [0, 1, 2], [2, 1, 0], [2, 0, 0]],
+            [[0, 0, 1], [0, 1, 2], [0, 1, 1], [2, 1, 0]],
+            [[0, 0, 1], [0, 1, 2], [1, 0, 0], [1, 0, 0]],
+            [[0, 1, 1], [0, 0, 3], [1, 0, 0], [2, 1, 0]],
+            [[0, 1, 1], [0, 1, 3], [1, 0, 0], [2, 1, 0]],
+            // 7 by two fields of an edge and by all three, of which the first is named; and in two edges.
+            [[0, 0, 1], [3, 2, 0], [1, 0, 0], [2, 1, 0]],
+            [[3, 0, 3], [0, 1, 2], [1, 0, 0], [2, 1, 0]],
+            [[0, 2, 3], [0, 1, 2], [1, 0, 0], [2, 1, 0]],
+            [[0, 0, 1], [0, 1, 2], [1, 0, 0], [3, 2, 3]],
+            [[0, 0, 3], [0, 1, 2], [3, 0, 0], [2, 1, 0]],
+        ] {
+            files.push(self.profile.write(&k_with(&edges)));
+        }
+        files
+    }
+
+    fn refused_by_pack(&self) -> Vec<Case> {
+        let seven_edges = [
+            0, 0, 1, 0, 1, 2, 1, 0, 0, 1, 1, 0, 2, 0, 0, 2, 1, 0, 2, 1, 0,
+        ];
+        let too_high = self.profile.top_colour() as u8 + 1;
+        let too_many_labels = self.profile.most_labels() + 1;
+        let room = self.k().len();
+        vec![
+            self.pack(&[], &[], 1, 0, 10),
+            self.pack(K_COLOURS, K_EDGES, 0, 0, room),
+            self.pack(K_COLOURS, K_EDGES, too_many_labels, 0, room),
+            self.pack(K_COLOURS, K_EDGES, (1 << 32) + 2, 0, room),
+            self.pack(K_COLOURS, K_EDGES, u64::MAX, 0, room),
+            self.pack(&[0, 1, 255], K_EDGES, 2, 0, room),
+            self.pack(K_COLOURS, &K_EDGES[..10], 2, 0, room),
+            self.pack(K_COLOURS, &K_EDGES[..11], 2, 0, room),
+            self.pack(K_COLOURS, K_EDGES, 2, 1 << 32, room),
+            self.pack(K_COLOURS, K_EDGES, 2, u64::MAX, room),
+            self.pack(K_COLOURS, &seven_edges, 2, 0, 30),
+            self.pack(K_COLOURS, &[0, 0, 1, 3, 0, 0, 2, 1, 0], 2, 0, 20),
+            self.pack(K_COLOURS, &[0, 0, 1, 1, 0, 0, 2, 1, 3], 2, 0, 20),
+            self.pack(K_COLOURS, &[0, 0, 1, 1, 0, 0, 1, 0, 0], 2, 0, 20),
+            self.pack(K_COLOURS, K_EDGES, 2, 0, 0),
+            // Two at once: 14 and 2, 2 and 3, 3 and 7, 9 and 10.
+            self.pack(&[0, too_high, 1], K_EDGES, 2, 3, room),
+            self.pack(K_COLOURS, &seven_edges, 2, 3, 30),
+            self.pack(
+                K_COLOURS,
+                &[&[9, 9, 9], &seven_edges[..]].concat(),
+                2,
+                0,
+                30,
+            ),
+            self.pack(K_COLOURS, Q_REPEATED, 2, 0, 0),
+        ]
+    }
+
+    /// K's two files and ride R; then traced to the end, without observations, stopped at the first, a middle and the last
+    /// observation, with rooms too short, and with labels outside.
+    fn traces(&self) -> Vec<Case> {
+        let k = self.k();
+        vec![
+            self.trace(k, K_OBSERVATIONS, 3),
+            self.trace(self.k_reduced(), K_OBSERVATIONS, 3),
+            self.trace(k, R_OBSERVATIONS, 2),
+            self.trace(k, R_OBSERVATIONS, 3),
+            self.trace(k, &[0, 0, 1, 1, 1, 1, 0, 0], 12),
+            self.trace(k, &[], 3),
+            self.trace(k, &[], 0),
+            self.trace(self.c(), &[0, 0], 6),
+            self.trace(k, &[0, 1, 0, 0], 9),
+            self.trace(k, &[0, 0, 1, 0], 5),
+            // The two colours of a ride that stops at 1 would fit.
+            self.trace(k, &[0, 1, 0, 0], 4),
+            self.trace(k, &[2, 0, 0], 4),
+            // It would stop before the labels outside, of which the first is named.
+            self.trace(k, &[0, 1, 64, 255], 7),
+        ]
+    }
+
+    /// Ride R's and others.
+    fn rooms_of_a_reduction(&self) -> Vec<Case> {
+        let k = self.k();
+        let room = k.len();
+        let mut filling = self.c().to_vec();
+        filling[self.c().len() - 1] |= 1;
+        vec![
+            self.reduce(k, room - 1, 6),
+            self.reduce(k, room, 4),
+            self.reduce(k, room, 6),
+            // Both short; nothing lent; half an entry missing; half an entry too many.
+            self.reduce(k, room - 1, 4),
+            self.reduce(k, 0, 0),
+            self.reduce(k, room, 5),
+            self.reduce(k, room, 7),
+            // The file's own refusal comes before those of the rooms.
+            self.reduce(&filling, 0, 0),
+        ]
+    }
+
+    /// The rides; the most rounds that there can be; some rounds with some states merged; leftovers; and rooms that would hold
+    /// the reduced file but not the original.
+    fn reduces(&self) -> Vec<Case> {
+        let mut cases = Vec::new();
+        for file in [self.c(), self.k(), self.k_reduced()] {
+            cases.push(self.reduce(file, file.len() + 11, 15));
+        }
+        let most = self.profile.most_states();
+        for filter in [
+            ride_l(),
+            ride_m(),
+            ride_n(),
+            ride_p(),
+            chains::plain(most),
+            self.thinned(self.either(40, 12), 4, 3),
+            self.thinned(self.either(90, most), 6, self.either(20, 7)),
+            self.parted_by_leftovers(),
+            from_the_middle(self.either(20, most)),
+            self.regular(9, 2, 0),
+        ] {
+            let file = self.profile.write(&filter);
+            let entries = filter.colours.len();
+            cases.push(self.reduce(&file, file.len(), 2 * entries));
+            cases.push(self.reduce(&file, file.len() + 13, 2 * entries + 9));
+        }
+        let without_edges = self.profile.write(&self.regular(most, 1, 0));
+        let reduced = self.profile.length(1, 0) as usize;
+        let list = 2 * most as usize;
+        cases.push(self.reduce(&without_edges, reduced, list));
+        cases.push(self.reduce(&without_edges, reduced, list - 1));
+        cases.push(self.reduce(&without_edges, without_edges.len(), list));
+        cases
+    }
+
+    /// The start, 2, leads to 3 and to 4, which become one. If the leftovers 0 and 1 took part they would be in 4's group and
+    /// not in 3's, which alone has an edge by the same label, and their colour and 5's would be counted.
+    fn parted_by_leftovers(&self) -> Filter {
+        let edges = [(0, 0, 5), (1, 0, 5), (2, 0, 3), (2, 1, 4), (3, 0, 3)];
+        Filter {
+            start: 2,
+            ..filter_of(&[7, 7, 1, 7, 7, self.profile.top_colour()], &edges)
+        }
+    }
+
+    /// Few colours, and two of five pairs without an edge.
+    fn thinned(&self, n: u64, m: u64, colours: u64) -> Filter {
+        let mut filter = self.regular(n, m, n * m);
+        filter.colours = (0..n).map(|state| state * state % colours).collect();
+        filter
+            .edges
+            .retain(|edge| (edge.source * 3 + edge.label * edge.source) % 5 > 1);
+        filter
+    }
+
+    /// The first e pairs of source and label, with colours and targets that go round.
+    fn regular(&self, n: u64, m: u64, e: u64) -> Filter {
+        let colours = self.profile.top_colour() + 1;
+        Filter {
+            colours: (0..n).map(|state| state * 5 % colours).collect(),
+            m,
+            start: n - 1,
+            edges: (0..e)
+                .map(|pair| edge(pair / m, pair % m, (pair * 7 + 3) % n))
                 .collect(),
-        }));
+        }
     }
-    files
+
+    fn longer(&self) -> Vec<Case> {
+        let (most, labels) = (self.profile.most_states(), self.profile.most_labels());
+        let mut cases = Vec::new();
+        for (n, m, e) in [
+            (most, 1, 0),
+            (most, labels, 3),
+            (1, labels, labels),
+            self.either((20, 7, 140), (10, 7, 70)),
+        ] {
+            let filter = self.regular(n, m, e);
+            let file = self.profile.write(&filter);
+            let (n, e) = (n as usize, e as usize);
+            let read = self.unpack(&file, n, 3 * e).outcome();
+            cases.push(self.check(&file));
+            cases.push(self.unpack(&file, n + 3, 3 * e + 5));
+            cases.push(self.unpack(&file, n - 1, 3 * e));
+            cases.push(self.pack(&read.b, &read.c, m, filter.start, file.len() + 7));
+        }
+        let largest = self.profile.write(&self.largest());
+        let length = self.profile.length(most, most * labels);
+        assert_eq!(largest.len() as u64, length);
+        assert_eq!(self.profile.check(&largest).number, 0);
+        cases.push(self.check(&largest));
+        cases
+    }
+
+    fn largest(&self) -> Filter {
+        let (most, labels) = (self.profile.most_states(), self.profile.most_labels());
+        self.regular(most, labels, most * labels)
+    }
+
+    /// The rides and the largest that either file holds, in rooms that are exact, longer, short by one and empty.
+    fn conversions(&self) -> Vec<Case> {
+        let k = read(K).expect("accepted");
+        let largest = Calls { profile: POCKET }.largest();
+        let mut cases = Vec::new();
+        for filter in [k, ride_m(), ride_n(), ride_p(), largest] {
+            let file = self.profile.write(&filter);
+            let room = other(self.profile).length(filter.n(), filter.e()) as usize;
+            for room in [room, room + 5, room - 1, 0] {
+                cases.push(self.convert(&file, room));
+            }
+        }
+        cases
+    }
 }
 
-fn refused_by_pack() -> Vec<Case> {
-    let seven_edges = [
-        0, 0, 1, 0, 1, 2, 1, 0, 0, 1, 1, 0, 2, 0, 0, 2, 1, 0, 2, 1, 0,
-    ];
-    vec![
-        pack(&[], &[], 1, 0, 10),
-        pack(K_COLOURS, K_EDGES, 0, 0, 18),
-        pack(K_COLOURS, K_EDGES, 65, 0, 18),
-        pack(K_COLOURS, K_EDGES, (1 << 32) + 2, 0, 18),
-        pack(K_COLOURS, K_EDGES, u64::MAX, 0, 18),
-        pack(&[0, 1, 255], K_EDGES, 2, 0, 18),
-        pack(K_COLOURS, &K_EDGES[..10], 2, 0, 18),
-        pack(K_COLOURS, &K_EDGES[..11], 2, 0, 18),
-        pack(K_COLOURS, K_EDGES, 2, 1 << 32, 18),
-        pack(K_COLOURS, K_EDGES, 2, u64::MAX, 18),
-        pack(K_COLOURS, &seven_edges, 2, 0, 30),
-        pack(K_COLOURS, &[0, 0, 1, 3, 0, 0, 2, 1, 0], 2, 0, 20),
-        pack(K_COLOURS, &[0, 0, 1, 1, 0, 0, 2, 1, 3], 2, 0, 20),
-        pack(K_COLOURS, &[0, 0, 1, 1, 0, 0, 1, 0, 0], 2, 0, 20),
-        pack(K_COLOURS, K_EDGES, 2, 0, 0),
-        // Two at once: 14 and 2, 2 and 3, 3 and 7, 9 and 10.
-        pack(&[0, 64, 1], K_EDGES, 2, 3, 18),
-        pack(K_COLOURS, &seven_edges, 2, 3, 30),
-        pack(
-            K_COLOURS,
-            &[&[9, 9, 9], &seven_edges[..]].concat(),
-            2,
-            0,
-            30,
-        ),
-        pack(K_COLOURS, Q_REPEATED, 2, 0, 0),
-    ]
+/// A chain from a state behind its middle.
+fn from_the_middle(states: u64) -> Filter {
+    Filter {
+        start: states * 3 / 5,
+        ..chains::plain(states)
+    }
 }
 
-/// K's two files and ride R; then traced to the end, without observations, stopped at the first, a middle and the last
-/// observation, with rooms too short, and with labels outside.
-fn traces() -> Vec<Case> {
-    vec![
-        trace(K, K_OBSERVATIONS, 3),
-        trace(K_REDUCED, K_OBSERVATIONS, 3),
-        trace(K, R_OBSERVATIONS, 2),
-        trace(K, R_OBSERVATIONS, 3),
-        trace(K, &[0, 0, 1, 1, 1, 1, 0, 0], 12),
-        trace(K, &[], 3),
-        trace(K, &[], 0),
-        trace(C, &[0, 0], 6),
-        trace(K, &[0, 1, 0, 0], 9),
-        trace(K, &[0, 0, 1, 0], 5),
-        // The two colours of a ride that stops at 1 would fit.
-        trace(K, &[0, 1, 0, 0], 4),
-        trace(K, &[2, 0, 0], 4),
-        // It would stop before the labels outside, of which the first is named.
-        trace(K, &[0, 1, 64, 255], 7),
-    ]
-}
-
-fn ride_r_reduced() -> Vec<Case> {
-    vec![
-        reduce(K, 17, 6),
-        reduce(K, 18, 4),
-        reduce(K, 18, 6),
-        // Both short; nothing lent; half an entry missing; half an entry too many.
-        reduce(K, 17, 4),
-        reduce(K, 0, 0),
-        reduce(K, 18, 5),
-        reduce(K, 18, 7),
-        // The file's own refusal comes before those of the rooms.
-        reduce(H, 0, 0),
-    ]
-}
-
-/// The rides; the most rounds that there can be; some rounds with some states merged; leftovers; and rooms that would hold
-/// the reduced file but not the original.
-fn reduces() -> Vec<Case> {
+/// Large files that are as much as a pocket file holds, and more by one state, one label or one colour, that of the first, a
+/// middle or the last state; and by all of them. With and without room.
+fn too_large() -> Vec<Case> {
+    let calls = Calls { profile: LARGE };
     let mut cases = Vec::new();
-    for file in [C, K, K_REDUCED] {
-        cases.push(reduce(file, file.len() + 11, 15));
-    }
-    for filter in [
-        ride_l(),
-        ride_m(),
-        ride_n(),
-        ride_p(),
-        chains::plain(256),
-        thinned(40, 4, 3),
-        thinned(90, 6, 20),
-        parted_by_leftovers(),
-        from_the_middle(),
-        regular(9, 2, 0),
+    for (n, m, state, colour) in [
+        (16, 8, 0, 15),
+        (17, 8, 0, 15),
+        (16, 9, 0, 15),
+        (16, 8, 0, 16),
+        (16, 8, 7, 16),
+        (16, 8, 15, 16),
+        (16, 8, 7, 63),
+        (17, 9, 7, 16),
     ] {
-        let file = write(&filter);
-        let entries = filter.colours.len();
-        cases.push(reduce(&file, file.len(), 2 * entries));
-        cases.push(reduce(&file, file.len() + 13, 2 * entries + 9));
+        let mut filter = calls.regular(n, m, 6);
+        filter.colours = vec![15; n as usize];
+        filter.colours[state] = colour;
+        for room in [40, 0] {
+            cases.push(calls.convert(&LARGE.write(&filter), room));
+        }
     }
-    let without_edges = write(&regular(256, 1, 0));
-    let reduced = length(1, 0) as usize;
-    cases.push(reduce(&without_edges, reduced, 512));
-    cases.push(reduce(&without_edges, reduced, 511));
-    cases.push(reduce(&without_edges, without_edges.len(), 512));
     cases
-}
-
-/// The start, 2, leads to 3 and to 4, which become one. If the leftovers 0 and 1 took part they would be in 4's group and not
-/// in 3's, which alone has an edge by the same label, and their colour and 5's would be counted.
-fn parted_by_leftovers() -> Filter {
-    let edges = [(0, 0, 5), (1, 0, 5), (2, 0, 3), (2, 1, 4), (3, 0, 3)];
-    Filter {
-        start: 2,
-        ..filter_of(&[7, 7, 1, 7, 7, 63], &edges)
-    }
-}
-
-/// A chain from a state in its middle.
-fn from_the_middle() -> Filter {
-    Filter {
-        start: 12,
-        ..chains::plain(20)
-    }
-}
-
-/// Few colours, and two of five pairs without an edge.
-fn thinned(n: u64, m: u64, colours: u64) -> Filter {
-    let mut filter = regular(n, m, n * m);
-    filter.colours = (0..n).map(|state| state * state % colours).collect();
-    filter
-        .edges
-        .retain(|edge| (edge.source * 3 + edge.label * edge.source) % 5 > 1);
-    filter
 }
 
 /// Both ways, in rooms that are exact, longer, short by one and empty; then what cannot be drawn: another start, labels
@@ -268,6 +440,7 @@ fn drawings() -> Vec<Case> {
             cases.push(from_dot(text, room));
         }
     }
+    let calls = Calls { profile: LARGE };
     let drawn = ride_n();
     let other_start = Filter {
         start: 6,
@@ -281,10 +454,10 @@ fn drawings() -> Vec<Case> {
         drawn,
         other_start,
         unused_label,
-        regular(2, 2, 0),
-        regular(1, 2, 0),
+        calls.regular(2, 2, 0),
+        calls.regular(1, 2, 0),
     ] {
-        let file = write(&filter);
+        let file = LARGE.write(&filter);
         cases.push(to_dot(&file, 250));
         cases.push(to_dot(&file, 0));
     }
@@ -346,39 +519,4 @@ fn texts_refused_by_pack() -> Vec<Case> {
         [from_dot(&text, 20), from_dot(&text, 0)]
     })
     .collect()
-}
-
-fn longer() -> Vec<Case> {
-    let mut cases = Vec::new();
-    for (n, m, e) in [(256, 1, 0), (256, 64, 3), (1, 64, 64), (20, 7, 140)] {
-        let filter = regular(n, m, e);
-        let file = write(&filter);
-        let (n, e) = (n as usize, e as usize);
-        let read = unpack(&file, n, 3 * e).outcome();
-        cases.push(Case::check(file.clone()));
-        cases.push(unpack(&file, n + 3, 3 * e + 5));
-        cases.push(unpack(&file, n - 1, 3 * e));
-        cases.push(pack(&read.b, &read.c, m, filter.start, file.len() + 7));
-    }
-    let largest = write(&regular(256, 64, 16_384));
-    assert_eq!(largest.len() as u64, length(256, 16_384));
-    assert_eq!(check(&largest).number, 0);
-    cases.push(Case::check(largest));
-    cases
-}
-
-/// The first e pairs of source and label, with colours and targets that go round.
-fn regular(n: u64, m: u64, e: u64) -> Filter {
-    Filter {
-        colours: (0..n).map(|state| state * 5 % 64).collect(),
-        m,
-        start: n - 1,
-        edges: (0..e)
-            .map(|pair| Edge {
-                source: pair / m,
-                label: pair % m,
-                target: (pair * 7 + 3) % n,
-            })
-            .collect(),
-    }
 }

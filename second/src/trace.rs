@@ -1,6 +1,7 @@
 //! A ride along the edges of a filter, one observation after another.
 
-use crate::file::{read, Filter, Refusal};
+use crate::file::{Filter, Refusal};
+use crate::profile::Profile;
 
 /// The most observations that one ride takes.
 pub const MOST_OBSERVATIONS: usize = 65_535;
@@ -13,8 +14,13 @@ pub struct Ride {
 }
 
 /// Rides through a file with room for so many colours, or says why not.
-pub fn trace(file: &[u8], observations: &[u8], room: usize) -> Result<Ride, Refusal> {
-    let filter = read(file)?;
+pub fn trace(
+    profile: Profile,
+    file: &[u8],
+    observations: &[u8],
+    room: usize,
+) -> Result<Ride, Refusal> {
+    let filter = profile.read(file)?;
     if observations.len() > MOST_OBSERVATIONS || room < observations.len() + 1 {
         return Err(Refusal::new(12));
     }

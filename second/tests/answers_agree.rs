@@ -2,29 +2,65 @@
 
 use second::case::{Call, Case, Outcome};
 use second::compare::Batch;
-use second::file::Header;
-use second::kinds::{self, Kind};
+use second::kinds::{self, Kind, Seen};
 use second::make;
+use second::profile::{Profile, LARGE, POCKET, PROFILES};
 use second::random::{seed, Random};
-use std::collections::BTreeSet;
+use std::collections::BTreeMap;
 use std::path::Path;
 
 const BATCHES: usize = 20;
-const LEAST_FILES: usize = 100_000;
-/// Traces through a file that is accepted.
-const LEAST_RIDES: usize = 100_000;
-/// Filters that were reduced.
-const LEAST_REDUCED: usize = 20_000;
-/// Of these, one in so many or more has states that are dropped.
+
+/// What there has to be enough of.
+#[derive(Clone, Copy, Debug, PartialEq, Eq, PartialOrd, Ord)]
+enum Counted {
+    Files(Profile),
+    /// Traces through a file that is accepted.
+    Rides(Profile),
+    /// Filters that were reduced.
+    Reduced(Profile),
+    /// Those of them with states that are dropped.
+    Dropping(Profile),
+    /// Those of them with as many states and labels as there can be, and many rounds.
+    Long(Profile),
+    /// Those with as many edges as there can be too, and the highest colour, checked.
+    Largest(Profile),
+    /// Texts to be read, whether they are of the profile or not.
+    Texts,
+    /// Filters that were drawn.
+    Drawn,
+    /// Those of them of the largest file's sizes, and as many texts of them that were read.
+    LargestDrawn,
+    LargestRead,
+    /// Files of either kind that became one of the other.
+    ConvertedFrom(Profile),
+    /// Large files of filters that no pocket file holds.
+    TooLarge,
+}
+
+/// Each with the least number of them.
+const LEAST: [(Counted, usize); 17] = [
+    (Counted::Files(LARGE), 100_000),
+    (Counted::Files(POCKET), 50_000),
+    (Counted::Rides(LARGE), 100_000),
+    (Counted::Rides(POCKET), 50_000),
+    (Counted::Reduced(LARGE), 20_000),
+    (Counted::Reduced(POCKET), 10_000),
+    (Counted::Long(LARGE), 20),
+    (Counted::Long(POCKET), 20),
+    (Counted::Largest(LARGE), 20),
+    (Counted::Largest(POCKET), 20),
+    (Counted::Texts, 50_000),
+    (Counted::Drawn, 3_000),
+    (Counted::LargestDrawn, 20),
+    (Counted::LargestRead, 20),
+    (Counted::ConvertedFrom(LARGE), 4_000),
+    (Counted::ConvertedFrom(POCKET), 10_000),
+    (Counted::TooLarge, 10_000),
+];
+
+/// One in so many reductions or more has states that are dropped.
 const ONE_IN_DROPS: usize = 4;
-/// Those of them with as many states and labels as there can be, and many rounds.
-const LEAST_LONG: usize = 20;
-/// Texts to be read, whether they are of the profile or not.
-const LEAST_TEXTS: usize = 50_000;
-/// Filters that were drawn.
-const LEAST_DRAWN: usize = 3_000;
-/// Those of them of the largest file's sizes, and as many texts of them that were read.
-const LEAST_LARGEST: usize = 20;
 
 /// The bytes of the largest file.
 const LARGEST: u64 = 45_253;
@@ -32,54 +68,64 @@ const LARGEST: u64 = 45_253;
 /// How much was tried.
 #[derive(Debug, Default)]
 struct Tally {
-    cases: usize,
-    files: usize,
-    rides: usize,
-    reduced: usize,
-    dropping: usize,
-    long: usize,
-    texts: usize,
-    drawn: usize,
-    largest_drawn: usize,
-    largest_read: usize,
-    kinds: BTreeSet<Kind>,
+    counts: BTreeMap<Counted, usize>,
+    seen: Seen,
 }
 
 impl Tally {
+    fn of(&self, counted: Counted) -> usize {
+        self.counts.get(&counted).copied().unwrap_or_default()
+    }
+
     fn add(&mut self, case: &Case, outcome: &Outcome) {
-        let number = outcome.answer.number;
         let kinds = kinds::of(case, outcome);
-        self.cases += 1;
-        match case.call {
-            Call::Check => self.files += 1,
-            Call::Trace if [0, 12, 13].contains(&number) => self.rides += 1,
-            Call::Reduce if number == 0 => {
-                self.reduced += 1;
-                self.dropping += usize::from(!kinds.contains(&Kind::NothingDropped));
-                if kinds.contains(&Kind::ManyRounds) && is_full_size(&case.a) {
-                    self.long += 1;
-                }
-            }
-            Call::FromDot => {
-                self.texts += 1;
-                if outcome.answer.counts[0] == LARGEST {
-                    self.largest_read += 1;
-                }
-            }
-            Call::ToDot if number == 0 => {
-                self.drawn += 1;
-                if case.a.len() as u64 == LARGEST {
-                    self.largest_drawn += 1;
-                }
-            }
-            _ => {}
+        for counted in counted(case, outcome, &kinds) {
+            *self.counts.entry(counted).or_default() += 1;
         }
-        self.kinds.extend(kinds);
+        self.seen.add(case.call, kinds);
     }
 }
 
-fn is_full_size(file: &[u8]) -> bool {
-    Header::of(file).is_some_and(|header| header.n == 256 && header.m == 64)
+fn counted(case: &Case, outcome: &Outcome, kinds: &[Kind]) -> Vec<Counted> {
+    let number = outcome.answer.number;
+    let all = match case.call {
+        Call::Check(profile) => vec![
+            (Counted::Files(profile), true),
+            (Counted::Largest(profile), kinds.contains(&Kind::Largest)),
+        ],
+        Call::Trace(profile) => vec![(Counted::Rides(profile), [0, 12, 13].contains(&number))],
+        Call::Reduce(profile) if number == 0 => {
+            let whole = kinds.contains(&Kind::NothingDropped);
+            let long = kinds.contains(&Kind::ManyRounds) && is_full_size(profile, &case.a);
+            vec![
+                (Counted::Reduced(profile), true),
+                (Counted::Dropping(profile), !whole),
+                (Counted::Long(profile), long),
+            ]
+        }
+        Call::FromDot => vec![
+            (Counted::Texts, true),
+            (Counted::LargestRead, outcome.answer.counts[0] == LARGEST),
+        ],
+        Call::ToDot if number == 0 => vec![
+            (Counted::Drawn, true),
+            (Counted::LargestDrawn, case.a.len() as u64 == LARGEST),
+        ],
+        Call::ToLarge => vec![(Counted::ConvertedFrom(POCKET), number == 0)],
+        Call::ToPocket => vec![
+            (Counted::ConvertedFrom(LARGE), number == 0),
+            (Counted::TooLarge, number == 16),
+        ],
+        _ => Vec::new(),
+    };
+    let hold = all.into_iter().filter(|&(_, holds)| holds);
+    hold.map(|(counted, _)| counted).collect()
+}
+
+fn is_full_size(profile: Profile, file: &[u8]) -> bool {
+    let most = (profile.most_states(), profile.most_labels());
+    let header = profile.header(file);
+    header.is_some_and(|header| (header.n, header.m) == most)
 }
 
 #[test]
@@ -98,38 +144,21 @@ fn answers_agree() {
             tally.add(case, outcome);
         }
     }
-    println!(
-        "{} cases, {} files, {} rides, {} reduced, {} of them long, {} with leftovers, {} texts, {} drawn",
-        tally.cases,
-        tally.files,
-        tally.rides,
-        tally.reduced,
-        tally.long,
-        tally.dropping,
-        tally.texts,
-        tally.drawn
-    );
-    for (what, tried, least) in [
-        ("files", tally.files, LEAST_FILES),
-        ("rides", tally.rides, LEAST_RIDES),
-        ("reductions", tally.reduced, LEAST_REDUCED),
-        (
-            "reductions with leftovers",
-            tally.dropping,
-            tally.reduced / ONE_IN_DROPS,
-        ),
-        ("long reductions", tally.long, LEAST_LONG),
-        ("texts", tally.texts, LEAST_TEXTS),
-        ("drawings", tally.drawn, LEAST_DRAWN),
-        ("largest texts", tally.largest_read, LEAST_LARGEST),
-        ("largest drawings", tally.largest_drawn, LEAST_LARGEST),
-    ] {
-        assert!(tried >= least, "only {tried} {what} were tried");
+    println!("{:?}", tally.counts);
+    for (counted, least) in LEAST {
+        let tried = tally.of(counted);
+        assert!(tried >= least, "only {tried} of {counted:?} were tried");
     }
-    let missing: Vec<Kind> = Call::ALL
-        .into_iter()
-        .flat_map(kinds::all_of)
-        .filter(|kind| !tally.kinds.contains(kind))
-        .collect();
+    for profile in PROFILES {
+        let reduced = tally.of(Counted::Reduced(profile));
+        let dropping = tally.of(Counted::Dropping(profile));
+        assert!(
+            dropping >= reduced / ONE_IN_DROPS,
+            "{dropping} of {reduced} {profile:?} reductions drop states"
+        );
+    }
+    let missing = tally.seen.missing();
     assert!(missing.is_empty(), "SEED={seed} never led to {missing:?}");
+    let beyond = tally.seen.beyond();
+    assert!(beyond.is_empty(), "SEED={seed} led to {beyond:?}");
 }

@@ -1,8 +1,9 @@
 //! The second program against what documents 01 and 02 say in numbers.
 
-use second::call::{check, pack, reduce, trace, unpack, Answer};
+use second::call::{check, Answer};
 use second::case::Case;
-use second::file::{length, read, write, Edge, Filter};
+use second::file::{read, write, Filter};
+use second::profile::LARGE;
 use second::program;
 use second::rides::*;
 
@@ -31,16 +32,8 @@ fn rides_a_to_h() {
     assert_eq!(check(E), refused(2, 0));
     assert_eq!(check(F), refused(3, 0));
     assert_eq!(check(G), refused(4, 0));
-    assert_eq!(length(1, 1), 9);
+    assert_eq!(LARGE.length(1, 1), 9);
     assert_eq!(check(H), refused(6, 0));
-}
-
-fn edge(source: u64, label: u64, target: u64) -> Edge {
-    Edge {
-        source,
-        label,
-        target,
-    }
 }
 
 #[test]
@@ -76,7 +69,7 @@ fn ride_k_there_and_back() {
         let mut edge_room = [0xee; 20];
         let counts = [n as u64, 2, 0, 4];
         assert_eq!(
-            unpack(file, &mut colour_room, &mut edge_room),
+            LARGE.unpack(file, &mut colour_room, &mut edge_room),
             accepted(counts)
         );
         assert_eq!(&colour_room[..n], colours);
@@ -86,7 +79,7 @@ fn ride_k_there_and_back() {
 
         let mut room = [0xee; 25];
         assert_eq!(
-            pack(colours, edges, 2, 0, &mut room),
+            LARGE.pack(colours, edges, 2, 0, &mut room),
             accepted([18, 0, 0, 0])
         );
         assert_eq!(&room[..18], file);
@@ -104,7 +97,7 @@ fn ride_k_in_short_rooms() {
     ] {
         let mut colour_room = vec![0xee; colours];
         let mut edge_room = vec![0xee; edges];
-        assert_eq!(unpack(K, &mut colour_room, &mut edge_room), answer);
+        assert_eq!(LARGE.unpack(K, &mut colour_room, &mut edge_room), answer);
         if answer.number != 0 {
             assert_eq!(colour_room, vec![0xee; colours]);
             assert_eq!(edge_room, vec![0xee; edges]);
@@ -112,7 +105,7 @@ fn ride_k_in_short_rooms() {
     }
     for (length, answer) in [(17, refused(10, 0)), (18, accepted([18, 0, 0, 0]))] {
         let mut room = vec![0xee; length];
-        assert_eq!(pack(K_COLOURS, K_EDGES, 2, 0, &mut room), answer);
+        assert_eq!(LARGE.pack(K_COLOURS, K_EDGES, 2, 0, &mut room), answer);
         assert_eq!(room == vec![0xee; length], answer.number != 0);
     }
 }
@@ -129,14 +122,14 @@ fn ride_q() {
         (&many, K_EDGES, 0, refused(14, 0)),
     ] {
         let mut room = [0xee; 300];
-        assert_eq!(pack(colours, edges, 2, start, &mut room), answer);
+        assert_eq!(LARGE.pack(colours, edges, 2, start, &mut room), answer);
         assert_eq!(room, [0xee; 300]);
     }
 }
 
 #[test]
 fn the_largest_file() {
-    assert_eq!(length(256, 16_384), 45_253);
+    assert_eq!(LARGE.length(256, 16_384), 45_253);
     let mut edges = Vec::new();
     for source in 0..=255 {
         for label in 0..64 {
@@ -144,14 +137,14 @@ fn the_largest_file() {
         }
     }
     let mut room = vec![0xee; 45_254];
-    let answer = pack(&[63; 256], &edges, 64, 255, &mut room);
+    let answer = LARGE.pack(&[63; 256], &edges, 64, 255, &mut room);
     assert_eq!(answer, accepted([45_253, 0, 0, 0]));
     assert_eq!(room[45_253], 0xee);
     assert_eq!(check(&room), refused(5, 0));
     assert_eq!(check(&room[..45_252]), refused(4, 0));
     let mut colour_room = vec![0xee; 256];
     let mut edge_room = vec![0xee; 49_152];
-    let answer = unpack(&room[..45_253], &mut colour_room, &mut edge_room);
+    let answer = LARGE.unpack(&room[..45_253], &mut colour_room, &mut edge_room);
     assert_eq!(answer, accepted([256, 64, 255, 16_384]));
     assert_eq!(colour_room, vec![63; 256]);
     assert_eq!(edge_room, edges);
@@ -160,7 +153,7 @@ fn the_largest_file() {
 /// Traces with a room of so many bytes, and looks at each of them afterwards.
 fn traced_in(file: &[u8], observations: &[u8], room: usize, answer: Answer, shown: &[u8]) {
     let mut colours = vec![0xee; room];
-    assert_eq!(trace(file, observations, &mut colours), answer);
+    assert_eq!(LARGE.trace(file, observations, &mut colours), answer);
     assert_eq!(&colours[..shown.len()], shown);
     assert!(colours[shown.len()..].iter().all(|&byte| byte == 0xee));
 }
@@ -312,7 +305,10 @@ fn as_many_observations_as_a_ride_takes() {
 fn reduced_in(file: &[u8], rooms: (usize, usize), answer: Answer, wrote: (&[u8], &[u16])) {
     let mut answer_room = vec![0xee; rooms.0];
     let mut class_entries = vec![0xeeee; rooms.1];
-    assert_eq!(reduce(file, &mut answer_room, &mut class_entries), answer);
+    assert_eq!(
+        LARGE.reduce(file, &mut answer_room, &mut class_entries),
+        answer
+    );
     let (bytes, numbers) = wrote;
     assert_eq!(&answer_room[..bytes.len()], bytes);
     assert!(answer_room[bytes.len()..].iter().all(|&byte| byte == 0xee));
@@ -413,7 +409,7 @@ fn a_refused_file_ends_the_reduction() {
 #[test]
 fn a_class_list_in_a_batch_has_two_bytes_an_entry() {
     let list = |bytes| {
-        let case = Case::reduce(K.to_vec(), vec![0xee; 18], vec![0xee; bytes]);
+        let case = Case::reduce(LARGE, K.to_vec(), vec![0xee; 18], vec![0xee; bytes]);
         let outcome = case.outcome();
         (outcome.answer.number, outcome.c)
     };
@@ -423,7 +419,7 @@ fn a_class_list_in_a_batch_has_two_bytes_an_entry() {
     assert_eq!(list(6), (0, vec![0, 0, 0, 1, 0, 1]));
     assert_eq!(list(7), (0, vec![0, 0, 0, 1, 0, 1, 0xee]));
     assert_eq!(list(8), (0, vec![0, 0, 0, 1, 0, 1, 0xee, 0xee]));
-    let of_p = Case::reduce(P.to_vec(), vec![0xee; 13], vec![0xee; 6]).outcome();
+    let of_p = Case::reduce(LARGE, P.to_vec(), vec![0xee; 13], vec![0xee; 6]).outcome();
     assert_eq!(of_p.c, [0, 0, 0xff, 0xff, 0xff, 0xff]);
 }
 

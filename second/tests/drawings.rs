@@ -1,73 +1,13 @@
 //! Document 02's drawings by hand: what it says in numbers, put to the second program and to the proved `answers`.
 
+#[path = "common/by_hand.rs"]
+mod by_hand;
 mod common;
 
-use common::{at_once, program, run, whole};
-use second::call::Answer;
-use second::case::{Case, Outcome};
+use by_hand::{ridden, Ride};
+use second::case::Case;
 use second::file::{write, Edge, Filter};
-use second::frame::{read_outcomes, write_batch};
 use second::rides::*;
-
-/// A call and what it has to come to: its answer, and the bytes at the front of its room.
-struct Ride {
-    case: Case,
-    answer: Answer,
-    written: Vec<u8>,
-}
-
-impl Ride {
-    fn accepted(case: Case, written: &[u8]) -> Ride {
-        Ride {
-            case,
-            answer: Answer {
-                number: 0,
-                place: 0,
-                counts: [written.len() as u64, 0, 0, 0],
-            },
-            written: written.to_vec(),
-        }
-    }
-
-    fn refused(case: Case, number: u8, place: u64) -> Ride {
-        Ride {
-            case,
-            answer: Answer {
-                number,
-                place,
-                counts: [0; 4],
-            },
-            written: Vec::new(),
-        }
-    }
-
-    fn outcome(&self) -> Outcome {
-        let mut c = self.case.c.clone();
-        c[..self.written.len()].copy_from_slice(&self.written);
-        Outcome {
-            answer: self.answer,
-            b: self.case.b.clone(),
-            c,
-        }
-    }
-}
-
-/// Both programs come to what the document says.
-fn ridden(rides: &[Ride]) {
-    for ride in rides {
-        let text = ride.case.a.escape_ascii();
-        assert_eq!(ride.case.outcome(), ride.outcome(), "second: {text}");
-    }
-    let cases: Vec<Case> = rides.iter().map(|ride| ride.case.clone()).collect();
-    let ran = run(program("answers"), whole(write_batch(&cases)), at_once);
-    assert!(ran.went_well(), "{}", ran.end());
-    let (outcomes, left) = read_outcomes(&ran.stdout, &cases);
-    for (ride, outcome) in rides.iter().zip(&outcomes) {
-        let text = ride.case.a.escape_ascii();
-        assert_eq!(*outcome, ride.outcome(), "answers: {text}");
-    }
-    assert_eq!((outcomes.len(), left.len()), (rides.len(), 0));
-}
 
 fn read_in(text: impl AsRef<[u8]>, room: usize) -> Case {
     Case::from_dot(text.as_ref().to_vec(), vec![0xee; room])
@@ -88,8 +28,8 @@ fn k_both_ways() {
     for (file, text) in [(C, C_DRAWN), (K, K_DRAWN), (K_REDUCED, K_REDUCED_DRAWN)] {
         let text = text.as_bytes();
         for more in [0, 1, 40] {
-            rides.push(Ride::accepted(read_in(text, file.len() + more), file));
-            rides.push(Ride::accepted(draw_in(file, text.len() + more), text));
+            rides.push(Ride::written(read_in(text, file.len() + more), file));
+            rides.push(Ride::written(draw_in(file, text.len() + more), text));
         }
         for room in [0, 1, file.len() - 1] {
             rides.push(Ride::refused(read_in(text, room), 10, 0));
@@ -110,8 +50,8 @@ fn rides_l_and_p() {
     let mut rides = Vec::new();
     for (filter, text) in [(ride_l(), l), (ride_p(), p)] {
         let (file, text) = (write(&filter), text.as_bytes());
-        rides.push(Ride::accepted(draw_in(&file, text.len()), text));
-        rides.push(Ride::accepted(read_in(text, file.len()), &file));
+        rides.push(Ride::written(draw_in(&file, text.len()), text));
+        rides.push(Ride::written(read_in(text, file.len()), &file));
     }
     ridden(&rides);
 }
@@ -247,7 +187,7 @@ fn accepted(text: impl AsRef<[u8]>, colours: &[u64], m: u64, edges: &[(u64, u64,
         start: 0,
         edges: edges.collect(),
     });
-    Ride::accepted(read_in(text, file.len()), &file)
+    Ride::written(read_in(text, file.len()), &file)
 }
 
 #[test]
@@ -351,7 +291,7 @@ fn file(m: u64, start: u64, edges: &[(u64, u64, u64)]) -> Vec<u8> {
 fn what_is_not_drawn() {
     let drawn = b"digraph {\n0 [label=0];\n1 [label=1];\n2 [label=1];\n}\n";
     let mut rides = vec![
-        Ride::accepted(draw_in(&file(1, 0, &[]), 51), drawn),
+        Ride::written(draw_in(&file(1, 0, &[]), 51), drawn),
         Ride::refused(draw_in(&file(1, 0, &[]), 50), 10, 0),
     ];
     for room in [0, 50, 51, 500] {
@@ -416,11 +356,11 @@ fn the_longest_drawing() {
     });
     let text = text.as_bytes();
     ridden(&[
-        Ride::accepted(draw_in(&file, 371_230), text),
-        Ride::accepted(draw_in(&file, 371_240), text),
+        Ride::written(draw_in(&file, 371_230), text),
+        Ride::written(draw_in(&file, 371_240), text),
         Ride::refused(draw_in(&file, 371_229), 10, 0),
-        Ride::accepted(read_in(text, 45_253), &file),
-        Ride::accepted(read_in(text, 45_260), &file),
+        Ride::written(read_in(text, 45_253), &file),
+        Ride::written(read_in(text, 45_260), &file),
         Ride::refused(read_in(text, 45_252), 10, 0),
         Ride::refused(read_in(&text[..371_229], 45_253), 15, 371_229),
         Ride::refused(read_in([text, b"\n"].concat(), 45_253), 15, 371_230),

@@ -14,6 +14,7 @@ use second::compare::Batch;
 use second::dot::can_be_drawn;
 use second::file::{read, write, Filter};
 use second::make::Made;
+use second::profile::POCKET;
 use second::program::shrink;
 use second::reduce::reduce;
 use second::rides::*;
@@ -158,35 +159,66 @@ fn holds(outcome: &Outcome, written: &[u8]) -> bool {
 
 const FOUND: u8 = 0xee;
 
-#[test]
-fn the_drawings_are_written_and_read_by_both_programs() {
-    let (filters, drawings) = (files(&examples(), "filter"), files(&examples(), "dot"));
+/// What stands beside the filter files under this ending is what one call makes of them, and the other makes them of it.
+fn turned_both_ways(
+    ending: &str,
+    there: fn(Vec<u8>, Vec<u8>) -> Case,
+    back: fn(Vec<u8>, Vec<u8>) -> Case,
+) {
+    let (filters, others) = (files(&examples(), "filter"), files(&examples(), ending));
     let room = |written: &Vec<u8>| vec![FOUND; written.len() + 3];
     let mut made = Vec::new();
-    for (name, text) in &drawings {
+    for (name, other) in &others {
         let file = &filters[name];
         for case in [
-            Case::to_dot(file.clone(), room(text)),
-            Case::from_dot(text.clone(), room(file)),
+            there(file.clone(), room(other)),
+            back(other.clone(), room(file)),
         ] {
-            let family = "drawings of the examples";
+            let family = "what stands beside the examples";
             made.push(Made { family, case });
         }
     }
-    let batch = Batch::new("second-examples".to_string(), made);
+    let batch = Batch::new(format!("second-examples-{ending}"), made);
     let outcomes = batch
         .compare()
         .unwrap_or_else(|difference| panic!("{}", difference.report));
-    for ((name, text), of_both) in drawings.iter().zip(outcomes.chunks(2)) {
+    for ((name, other), of_both) in others.iter().zip(outcomes.chunks(2)) {
         assert!(
-            holds(&of_both[0], text),
-            "{name}.dot is not what is written"
+            holds(&of_both[0], other),
+            "{name}.{ending} is not what is written"
         );
         assert!(
             holds(&of_both[1], &filters[name]),
-            "{name}.dot is not read as it is"
+            "{name}.{ending} is not read as it is"
         );
     }
+}
+
+#[test]
+fn the_drawings_are_written_and_read_by_both_programs() {
+    turned_both_ways("dot", Case::to_dot, Case::from_dot);
+}
+
+#[test]
+fn the_pocket_files_are_written_and_read_by_both_programs() {
+    assert_eq!(files(&examples(), "pocket")["k"], K_POCKET);
+    turned_both_ways("pocket", Case::to_pocket, Case::to_large);
+}
+
+#[test]
+fn the_pocket_files_are_reduced_to_those_beside_them() {
+    let pockets = files(&examples(), "pocket");
+    let mut reduced = 0;
+    for (name, file) in &pockets {
+        let Some(beside) = pockets.get(&format!("{name}.reduced")) else {
+            continue;
+        };
+        let filter = POCKET.read(file).expect("an accepted file");
+        let own = POCKET.write(&reduce(&filter).filter);
+        assert!(own == *beside, "{name}.reduced.pocket");
+        reduced += 1;
+    }
+    assert!(reduced > 0, "no pocket file with its reduced one");
 }
 
 /// docs/FORMAT.md looks for a fault of K in a hex viewer: one bit of K is changed, and check names the place.

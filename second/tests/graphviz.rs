@@ -3,6 +3,7 @@
 use second::dot;
 use second::file::{read, Edge, Filter};
 use second::make::filters::{large, largest, shapes};
+use second::profile::LARGE;
 use second::random::{seed, Random};
 use std::fs;
 use std::io::{self, ErrorKind, Write};
@@ -104,9 +105,9 @@ fn graphviz_reads_what_the_drawings_say() {
         reads_as(&drawing, &filter, &name);
     }
     let mut random = Random::new(seed());
-    let mut filters = shapes(&mut random);
-    filters.extend((0..5).map(|_| large(&mut random)));
-    filters.push(largest(&mut random));
+    let mut filters = shapes(LARGE, &mut random);
+    filters.extend((0..5).map(|_| large(LARGE, &mut random)));
+    filters.push(largest(LARGE, &mut random));
     for filter in &filters {
         let drawing = dot::write(&filter.colours, &filter.edges);
         reads_as(drawing.as_bytes(), filter, &format!("{filter:?}"));

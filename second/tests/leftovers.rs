@@ -6,6 +6,7 @@ use second::file::{read, Edge, Filter};
 use second::kinds::{self, Kind};
 use second::make::leftovers::*;
 use second::make::{self, reduces};
+use second::profile::{Profile, PROFILES};
 use second::random::{seed, Random};
 use second::reach::reached;
 use second::reduce::reduce;
@@ -29,13 +30,23 @@ fn by_passes(filter: &Filter) -> BTreeSet<u64> {
 }
 
 fn filter_of_case(case: &Case) -> Filter {
-    read(&case.a).expect("accepted")
+    let profile = case.call.reads().expect("a call that reads a file");
+    profile.read(&case.a).expect("accepted")
 }
 
-/// So many times what a family makes.
-fn made(times: usize, make: fn(&mut Random) -> Vec<Case>) -> Vec<Case> {
+/// So many times what a family makes of either kind of file.
+fn made(times: usize, make: fn(Profile, &mut Random) -> Vec<Case>) -> Vec<Case> {
     let mut random = Random::new(seed());
-    (0..times).flat_map(|_| make(&mut random)).collect()
+    PROFILES
+        .repeat(times)
+        .into_iter()
+        .flat_map(|profile| make(profile, &mut random))
+        .collect()
+}
+
+/// The most states that either kind of file has.
+fn largest_sizes() -> [u64; 2] {
+    PROFILES.map(Profile::most_states)
 }
 
 #[test]
@@ -62,10 +73,12 @@ fn from_another_start() {
 fn both_ways_to_search_find_the_same() {
     let seed = seed();
     let mut random = Random::new(seed);
-    for family in reduces::FAMILIES {
-        for case in (0..family.times.min(20)).flat_map(|_| (family.make)(&mut random)) {
-            if let Ok(filter) = read(&case.a) {
-                assert_eq!(reached(&filter), by_passes(&filter), "SEED={seed}");
+    for profile in PROFILES {
+        for family in reduces::families(profile) {
+            for case in family.at_most(20, &mut random) {
+                if let Ok(filter) = profile.read(&case.a) {
+                    assert_eq!(reached(&filter), by_passes(&filter), "SEED={seed}");
+                }
             }
         }
     }
@@ -80,7 +93,7 @@ fn a_quarter_of_the_reductions_drops_states() {
     let (mut all, mut dropping, mut whole) = (0, 0, 0);
     let mut seen = BTreeSet::new();
     for made in (0..3).flat_map(|_| make::batch(&mut random)) {
-        if made.case.call == Call::Reduce {
+        if let Call::Reduce(_) = made.case.call {
             let outcome = made.case.outcome();
             let kinds = kinds::of(&made.case, &outcome);
             let accepted = outcome.answer.number == 0;
@@ -164,7 +177,10 @@ fn the_start_alone_is_left() {
         assert_eq!(case.outcome().answer.counts[..3], [1, 1, 0]);
         sizes.insert(filter.n());
     }
-    assert!(sizes.len() > 2 && sizes.contains(&256), "{sizes:?}");
+    for largest in largest_sizes() {
+        assert!(sizes.remove(&largest), "{sizes:?}");
+    }
+    assert!(sizes.len() > 2, "{sizes:?}");
 }
 
 #[test]
@@ -214,16 +230,18 @@ fn within(filter: &Filter, steps: u64) -> BTreeSet<u64> {
 
 #[test]
 fn the_last_state_is_as_far_as_there_are_others() {
-    let mut largest = 0;
+    let mut sizes = BTreeSet::new();
     for case in made(10, far_to_the_last) {
         let filter = filter_of_case(&case);
         let n = filter.n();
         assert_eq!(within(&filter, n - 1).len() as u64, n);
         assert_eq!(within(&filter, n - 2).len() as u64, n - 1);
         assert!(!list(&case).contains(&DROPPED));
-        largest = largest.max(n);
+        sizes.insert(n);
     }
-    assert_eq!(largest, 256);
+    for largest in largest_sizes() {
+        assert!(sizes.contains(&largest), "{sizes:?}");
+    }
 }
 
 /// Live states of one colour that become one state in no round, and the start, which has its own colour; and ride P.

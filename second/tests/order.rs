@@ -1,18 +1,20 @@
 //! The generator makes what its families say, and the second program answers in the documents' order.
 
 use second::bits::free_bits;
-use second::call::{check, pack};
 use second::case::{Call, Case};
-use second::file::{length, read, write, Filter, Header};
-use second::kinds;
+use second::file::Filter;
+use second::kinds::{self, many_rounds, Seen};
 use second::make::chains::{chains, lengths, rounds};
 use second::make::damage::{
-    one_faulty_edge, several_faults_in_an_edge, two_faulty_edges, Damage, TOGETHER,
+    one_faulty_edge, several_faults_in_an_edge, two_faulty_edges, Damage, Tops, TOGETHER,
 };
 use second::make::draft::Draft;
 use second::make::filters::shapes;
 use second::make::rooms::Room;
-use second::make::{contents, drawings, files, leftovers, lists, reduces, texts, traces};
+use second::make::{
+    contents, conversions, drawings, files, leftovers, lists, reduces, texts, traces,
+};
+use second::profile::{Profile, LARGE, POCKET, PROFILES};
 use second::random::{seed_or, Random};
 use second::reach::reached;
 use second::reduce::reduce;
@@ -45,28 +47,38 @@ fn for_each_seed(what: impl FnMut(&mut Random)) {
     for_seeds(ROUNDS, what);
 }
 
+/// The same for either kind of file.
+fn for_each_profile(mut what: impl FnMut(Profile, &mut Random)) {
+    for_each_seed(|random| {
+        PROFILES
+            .into_iter()
+            .for_each(|profile| what(profile, random))
+    });
+}
+
 fn number(case: &Case) -> u8 {
     case.outcome().answer.number
 }
 
 #[test]
 fn accepted_files_are_accepted_and_come_back() {
-    for_each_seed(|random| {
-        for filter in shapes(random) {
-            let file = write(&filter);
-            assert_eq!(file.len() as u64, length(filter.n(), filter.e()));
-            assert_eq!(Draft::of(filter.clone()).bytes(), file);
-            assert_eq!(read(&file), Ok(filter));
+    for_each_profile(|profile, random| {
+        for filter in shapes(profile, random) {
+            let file = profile.write(&filter);
+            let length = profile.length(filter.n(), filter.e());
+            assert_eq!(file.len() as u64, length);
+            assert_eq!(Draft::of(profile, filter.clone()).bytes(), file);
+            assert_eq!(profile.read(&file), Ok(filter));
         }
     });
 }
 
 #[test]
 fn one_fault_gives_its_number() {
-    for_each_seed(|random| {
-        let numbers: Vec<u8> = files::one_fault(random)
+    for_each_profile(|profile, random| {
+        let numbers: Vec<u8> = files::one_fault(profile, random)
             .iter()
-            .map(|file| check(file).number)
+            .map(|file| profile.check(file).number)
             .collect();
         assert_eq!(numbers, [1, 2, 3, 4, 5, 6, 7, 8, 9]);
     });
@@ -75,17 +87,20 @@ fn one_fault_gives_its_number() {
 /// In a file the numbers are in the order in which they are tested.
 #[test]
 fn of_two_faults_in_a_file_the_lower_number_comes() {
-    for_each_seed(|random| {
-        for (&(one, other), file) in files::PAIRS.iter().zip(files::two_faults(random)) {
-            assert_eq!(check(&file).number, one.min(other), "{one} and {other}");
+    for_each_profile(|profile, random| {
+        let files = files::two_faults(profile, random);
+        for (&(one, other), file) in files::PAIRS.iter().zip(files) {
+            let number = profile.check(&file).number;
+            assert_eq!(number, one.min(other), "{one} and {other}");
         }
     });
 }
 
 #[test]
 fn of_two_faults_in_lists_the_first_of_the_pair_comes() {
-    for_each_seed(|random| {
-        for (&(first, second), case) in lists::PAIRS.iter().zip(lists::two_faults(random)) {
+    for_each_profile(|profile, random| {
+        let cases = lists::two_faults(profile, random);
+        for (&(first, second), case) in lists::PAIRS.iter().zip(cases) {
             assert_eq!(number(&case), first, "{first} and {second}");
         }
     });
@@ -93,97 +108,96 @@ fn of_two_faults_in_lists_the_first_of_the_pair_comes() {
 
 #[test]
 fn a_faulty_edge_is_named() {
-    for_each_seed(|random| {
-        let filters = one_faulty_edge(63, random);
+    for_each_profile(|profile, random| {
+        let filters = one_faulty_edge(profile, Tops::of_files(profile), random);
         for (i, filter) in filters.iter().enumerate() {
             let damage = Damage::ALL[i / 3];
             let edge = damage.places(filter)[i % 3];
-            assert_eq!(
-                of_the_file(filter),
-                (damage.number(), damage.bit(filter, edge))
-            );
-            assert_eq!(of_the_lists(filter), (damage.number(), edge as u64));
+            is_named(profile, filter, damage, edge);
         }
     });
 }
 
+/// The damage of that edge decides, in a file and in lists of these contents.
+fn is_named(profile: Profile, filter: &Filter, damage: Damage, edge: usize) {
+    let number = damage.number();
+    let bit = damage.bit(profile, filter, edge);
+    assert_eq!(of_the_file(profile, filter), (number, bit));
+    assert_eq!(of_the_lists(profile, filter), (number, edge as u64));
+}
+
 /// The number and the place for a file of these contents.
-fn of_the_file(filter: &Filter) -> (u8, u64) {
-    let answer = check(&write(filter));
+fn of_the_file(profile: Profile, filter: &Filter) -> (u8, u64) {
+    let answer = profile.check(&profile.write(filter));
     (answer.number, answer.place)
 }
 
 /// The same for its lists.
-fn of_the_lists(filter: &Filter) -> (u8, u64) {
+fn of_the_lists(profile: Profile, filter: &Filter) -> (u8, u64) {
     let bytes = |values: Vec<u64>| -> Vec<u8> { values.iter().map(|&value| value as u8).collect() };
     let edges = filter.edges.iter();
     let edges = edges.flat_map(|edge| [edge.source, edge.label, edge.target]);
     let edges = bytes(edges.collect());
-    let answer = pack(
-        &bytes(filter.colours.clone()),
-        &edges,
-        filter.m,
-        filter.start,
-        &mut [],
-    );
+    let colours = bytes(filter.colours.clone());
+    let answer = profile.pack(&colours, &edges, filter.m, filter.start, &mut []);
     (answer.number, answer.place)
 }
 
 #[test]
 fn of_several_faults_in_an_edge_the_first_field_is_named() {
-    for_each_seed(|random| {
-        for (i, damaged) in several_faults_in_an_edge(63, random).iter().enumerate() {
+    for_each_profile(|profile, random| {
+        let all = several_faults_in_an_edge(profile, Tops::of_files(profile), random);
+        for (i, damaged) in all.iter().enumerate() {
             let first = TOGETHER[i / 3][0];
-            let filter = &damaged.filter;
-            assert_eq!(of_the_file(filter), (7, first.bit(filter, damaged.edge)));
-            assert_eq!(of_the_lists(filter), (7, damaged.edge as u64));
+            assert_eq!(first.number(), 7);
+            is_named(profile, &damaged.filter, first, damaged.edge);
         }
     });
 }
 
 #[test]
 fn the_earlier_of_two_faulty_edges_decides() {
-    for_each_seed(|random| {
-        for (i, damaged) in two_faulty_edges(63, random).iter().enumerate() {
+    for_each_profile(|profile, random| {
+        let all = two_faulty_edges(profile, Tops::of_files(profile), random);
+        for (i, damaged) in all.iter().enumerate() {
             let earlier = Damage::ALL[i / Damage::ALL.len()];
-            let filter = &damaged.filter;
-            assert_eq!(
-                of_the_file(filter),
-                (earlier.number(), earlier.bit(filter, damaged.edge))
-            );
-            assert_eq!(
-                of_the_lists(filter),
-                (earlier.number(), damaged.edge as u64)
-            );
+            is_named(profile, &damaged.filter, earlier, damaged.edge);
         }
     });
 }
 
 #[test]
 fn every_length_of_filling_comes_with_zeros_and_with_others() {
+    let odd = [1, 3, 5, 7].map(|free| [(free, 0), (free, 6)]).concat();
+    let even = [2, 4, 6].map(|free| [(free, 0), (free, 6)]).concat();
+    let all = [&odd[..], &even, &[(0, 0)]].concat();
     for_each_seed(|random| {
-        let mut seen = BTreeSet::new();
-        for file in files::fillings(random) {
-            let number = check(&file).number;
-            let header = Header::of(&file).expect("a header");
-            let bits = 37 + 6 * header.n + 22 * header.e;
-            seen.insert((free_bits(bits as usize), number));
-        }
-        let all = [1, 3, 5, 7].map(|free| [(free, 0), (free, 6)]).concat();
-        assert_eq!(seen, BTreeSet::from_iter(all));
+        assert_eq!(fillings(LARGE, random), BTreeSet::from_iter(odd.clone()));
+        assert_eq!(fillings(POCKET, random), BTreeSet::from_iter(all.clone()));
     });
+}
+
+/// How many filling bits come, each with which numbers.
+fn fillings(profile: Profile, random: &mut Random) -> BTreeSet<(usize, u8)> {
+    let mut seen = BTreeSet::new();
+    for file in files::fillings(profile, random) {
+        let header = profile.header(&file).expect("a header");
+        let bits = profile.bits(header.n, header.e);
+        seen.insert((free_bits(bits as usize), profile.check(&file).number));
+    }
+    seen
 }
 
 #[test]
 fn lists_outside_the_form_are_14_and_a_start_outside_is_2() {
     let numbers = |cases: Vec<Case>| -> Vec<u8> { cases.iter().map(number).collect() };
-    for_each_seed(|random| {
-        let outside = numbers(lists::outside_the_form(random));
+    for_each_profile(|profile, random| {
+        let outside = numbers(lists::outside_the_form(profile, random));
         assert!(outside.iter().all(|&number| number == 14));
-        for case in lists::start_outside(random) {
+        for case in lists::start_outside(profile, random) {
             assert_eq!(number(&case) == 2, case.second >= case.a.len() as u64);
         }
-        let too_many = numbers(lists::one_edge_too_many(random));
+        let too_many = numbers(lists::one_edge_too_many(profile, random));
         assert!(too_many.iter().all(|&number| number == 3));
     });
 }
@@ -205,12 +219,12 @@ fn enough(nth: usize) -> bool {
 
 #[test]
 fn full_rides_are_traced_where_the_room_is_enough() {
-    for_each_seed(|random| {
-        let rides = [traces::full_rides(random), traces::no_observations(random)];
+    for_each_profile(|profile, random| {
+        let rides = [traces::full_rides, traces::no_observations].map(|make| make(profile, random));
         for (i, case) in rides.concat().iter().enumerate() {
             assert_eq!(told(case), if enough(i) { TRACED } else { NO_ROOM });
         }
-        let long = traces::full_rides(random)
+        let long = traces::full_rides(profile, random)
             .iter()
             .filter(|case| case.b.len() >= 3)
             .count();
@@ -220,8 +234,8 @@ fn full_rides_are_traced_where_the_room_is_enough() {
 
 #[test]
 fn stopped_rides_stop_at_the_first_a_middle_and_the_last_observation() {
-    for_each_seed(|random| {
-        for (i, case) in traces::stopped_rides(random).iter().enumerate() {
+    for_each_profile(|profile, random| {
+        for (i, case) in traces::stopped_rides(profile, random).iter().enumerate() {
             let [number, place, stopped, at] = told(case);
             if enough(i) {
                 let last = case.b.len() as u64 - 1;
@@ -240,8 +254,8 @@ fn stopped_rides_stop_at_the_first_a_middle_and_the_last_observation() {
 
 #[test]
 fn labels_outside_are_13_at_the_first_a_middle_and_the_last_observation() {
-    for_each_seed(|random| {
-        let cases = traces::labels_outside(random);
+    for_each_profile(|profile, random| {
+        let cases = traces::labels_outside(profile, random);
         let third = cases.len() / 3;
         for (i, case) in cases.iter().enumerate() {
             let [number, place, rest @ ..] = told(case);
@@ -258,8 +272,8 @@ fn labels_outside_are_13_at_the_first_a_middle_and_the_last_observation() {
 
 #[test]
 fn of_two_faults_of_a_trace_the_room_decides() {
-    for_each_seed(|random| {
-        for four in traces::two_faults(random).chunks(4) {
+    for_each_profile(|profile, random| {
+        for four in traces::two_faults(profile, random).chunks(4) {
             let numbers: Vec<u64> = four.iter().map(|case| told(case)[0]).collect();
             assert_eq!(numbers, [12, 12, 13, 12]);
             // The later label outside is not named.
@@ -270,8 +284,9 @@ fn of_two_faults_of_a_trace_the_room_decides() {
 
 #[test]
 fn a_faulty_file_decides_before_the_trace() {
-    for_each_seed(|random| {
-        for (i, case) in traces::through_faulty_files(random).iter().enumerate() {
+    for_each_profile(|profile, random| {
+        let cases = traces::through_faulty_files(profile, random);
+        for (i, case) in cases.iter().enumerate() {
             assert_eq!(told(case)[0], i as u64 / 4 + 1);
         }
     });
@@ -280,7 +295,8 @@ fn a_faulty_file_decides_before_the_trace() {
 #[test]
 fn many_observations_are_12_from_65_536_on() {
     for_seeds(3, |random| {
-        for case in traces::many_observations(random) {
+        let cases = PROFILES.map(|profile| traces::many_observations(profile, random));
+        for case in cases.concat() {
             let enough_room = case.c.len() > case.b.len();
             let takes = case.b.len() <= 65_535 && enough_room;
             assert_eq!(told(&case) == NO_ROOM, !takes);
@@ -291,8 +307,9 @@ fn many_observations_are_12_from_65_536_on() {
 #[test]
 fn in_a_reduction_the_answer_room_decides_before_the_class_list() {
     let kinds = Room::ALL.len();
-    for_each_seed(|random| {
-        let cases = [reduces::of_the_document(random), reduces::all_rooms(random)];
+    for_each_profile(|profile, random| {
+        let cases =
+            [reduces::of_the_document, reduces::all_rooms].map(|make| make(profile, random));
         for (i, case) in cases.concat().iter().enumerate() {
             let expected = match (enough(i / kinds), enough(i)) {
                 (false, _) => 10,
@@ -301,7 +318,7 @@ fn in_a_reduction_the_answer_room_decides_before_the_class_list() {
             };
             assert_eq!(number(case), expected);
         }
-        for case in reduces::room_for_the_reduced_alone(random) {
+        for case in reduces::room_for_the_reduced_alone(profile, random) {
             assert_eq!(number(&case), 10);
         }
     });
@@ -309,8 +326,9 @@ fn in_a_reduction_the_answer_room_decides_before_the_class_list() {
 
 #[test]
 fn a_faulty_file_decides_before_the_rooms_of_a_reduction() {
-    for_each_seed(|random| {
-        for (i, case) in reduces::of_faulty_files(random).iter().enumerate() {
+    for_each_profile(|profile, random| {
+        let cases = reduces::of_faulty_files(profile, random);
+        for (i, case) in cases.iter().enumerate() {
             assert_eq!(usize::from(number(case)), i / 4 + 1);
         }
     });
@@ -318,39 +336,46 @@ fn a_faulty_file_decides_before_the_rooms_of_a_reduction() {
 
 #[test]
 fn chains_take_two_rounds_fewer_than_they_have_states() {
-    for_each_seed(|random| {
-        let count = random.between(1, 8);
-        let states = random.between(2 * count, 40);
+    for_each_profile(|profile, random| {
+        let most = profile.most_states().min(40);
+        // Each takes two colours, and what is behind the last one more.
+        let count = random.between(1, most / 5).min(profile.top_colour() / 2);
+        let states = random.between(2 * count, most);
         let lengths = lengths(random, count, states);
         assert_eq!(lengths.iter().sum::<u64>(), states);
-        let n = states + random.between(0, 5);
+        let n = most.min(states + random.between(0, 5));
         let m = random.between(1, 5);
-        let filter = chains(random, n, m, &lengths);
-        assert_eq!(read(&write(&filter)), Ok(filter.clone()));
+        let filter = chains(profile, random, n, m, &lengths);
+        assert_eq!(profile.read(&profile.write(&filter)), Ok(filter.clone()));
         assert_eq!(reduce(&filter).rounds, rounds(&lengths));
     });
 }
 
 #[test]
 fn chains_of_many_rounds_are_of_full_size() {
+    assert_eq!(PROFILES.map(many_rounds), [204, 12]);
     for_seeds(10, |random| {
-        for case in reduces::many_rounds(random) {
-            let header = Header::of(&case.a).expect("a header");
-            let answer = case.outcome().answer;
-            assert_eq!((answer.number, header.n, header.m), (0, 256, 64));
-            assert!((200..=254).contains(&answer.counts[2]));
+        for profile in PROFILES {
+            let most = profile.most_states();
+            for case in reduces::chains_of_many_rounds(profile, random) {
+                let header = profile.header(&case.a).expect("a header");
+                let answer = case.outcome().answer;
+                assert_eq!((answer.number, header.n), (0, most));
+                assert_eq!(header.m, profile.most_labels());
+                assert!((many_rounds(profile)..=most - 2).contains(&answer.counts[2]));
+            }
         }
     });
 }
 
 #[test]
 fn one_colour_is_one_state_and_different_colours_are_never_merged() {
-    for_each_seed(|random| {
-        for case in reduces::one_colour(random) {
+    for_each_profile(|profile, random| {
+        for case in reduces::one_colour(profile, random) {
             assert_eq!(case.outcome().answer.counts[..3], [1, 1, 0]);
         }
-        for (i, case) in reduces::many_colours(random).iter().enumerate() {
-            let filter = read(&case.a).expect("accepted");
+        for (i, case) in reduces::many_colours(profile, random).iter().enumerate() {
+            let filter = profile.read(&case.a).expect("accepted");
             let live = reached(&filter);
             let n = live.len() as u64;
             // The start leads to all of them every other time.
@@ -358,7 +383,7 @@ fn one_colour_is_one_state_and_different_colours_are_never_merged() {
             let [states, colours, rounds, _] = case.outcome().answer.counts;
             match i {
                 0..=3 => assert_eq!((states, colours, rounds), (n, n, 0)),
-                4 => assert_eq!(colours, 64),
+                4 => assert_eq!(colours, profile.top_colour() + 1),
                 _ => assert_eq!(colours, colours_of(&filter, &live)),
             }
         }
@@ -373,9 +398,9 @@ fn colours_of(filter: &Filter, states: &BTreeSet<u64>) -> u64 {
 
 #[test]
 fn unreachable_parts_are_not_reached() {
-    for_each_seed(|random| {
-        for case in reduces::unreachable_parts(random) {
-            let filter = read(&case.a).expect("accepted");
+    for_each_profile(|profile, random| {
+        for case in reduces::unreachable_parts(profile, random) {
+            let filter = profile.read(&case.a).expect("accepted");
             assert!((reached(&filter).len() as u64) < filter.n());
         }
     });
@@ -398,34 +423,44 @@ fn filters_are_merged_and_parted_in_each_family() {
         leftovers::with_own_colours,
         leftovers::far_to_the_last,
     ] {
-        let mut cases = 0;
-        let mut merged = 0;
-        let mut parted = 0;
-        for_each_seed(|random| {
-            for case in make(random) {
-                let answer = case.outcome().answer;
-                assert_eq!(answer.number, 0);
-                let live = reached(&read(&case.a).expect("accepted")).len() as u64;
-                cases += 1;
-                merged += u32::from(answer.counts[0] < live);
-                parted += u32::from(answer.counts[2] > 0);
-            }
-        });
-        assert!(merged > cases / 10, "{merged} of {cases} are merged");
-        assert!(parted > cases / 10, "{parted} of {cases} are parted");
+        for profile in PROFILES {
+            are_merged_and_parted(profile, make);
+        }
     }
+}
+
+fn are_merged_and_parted(profile: Profile, make: fn(Profile, &mut Random) -> Vec<Case>) {
+    let (mut cases, mut merged, mut parted) = (0, 0, 0);
+    for_each_seed(|random| {
+        for case in make(profile, random) {
+            let answer = case.outcome().answer;
+            assert_eq!(answer.number, 0);
+            let filter = profile.read(&case.a).expect("accepted");
+            cases += 1;
+            merged += u32::from(answer.counts[0] < reached(&filter).len() as u64);
+            parted += u32::from(answer.counts[2] > 0);
+        }
+    });
+    assert!(merged > cases / 10, "{merged} of {cases} are merged");
+    assert!(parted > cases / 10, "{parted} of {cases} are parted");
 }
 
 #[test]
 fn accepted_texts_and_drawn_filters_are_accepted_where_the_room_is_enough() {
+    are_accepted_where_the_room_is_enough(&[
+        texts::accepted,
+        drawings::drawn,
+        drawings::of_the_document,
+    ]);
+}
+
+/// Of families with every case in each room.
+fn are_accepted_where_the_room_is_enough(families: &[fn(&mut Random) -> Vec<Case>]) {
     for_seeds(20, |random| {
-        let cases = [
-            texts::accepted(random),
-            drawings::drawn(random),
-            drawings::of_the_document(random),
-        ];
-        for (i, case) in cases.concat().iter().enumerate() {
-            assert_eq!(number(case), if enough(i) { 0 } else { 10 });
+        for make in families {
+            for (i, case) in make(random).iter().enumerate() {
+                assert_eq!(number(case), if enough(i) { 0 } else { 10 });
+            }
         }
     });
 }
@@ -535,17 +570,71 @@ fn the_largest_texts_are_as_long_as_a_filter_can_make_them() {
 }
 
 #[test]
+fn filters_of_pocket_files_are_converted_where_the_room_is_enough() {
+    are_accepted_where_the_room_is_enough(&[conversions::of_the_document, conversions::both_ways]);
+}
+
+/// Where n, m or a colour is one more than a pocket file has, at each of its three places.
+#[test]
+fn at_the_limits_one_more_is_16_whatever_the_room() {
+    let rooms = Room::ALL.len();
+    for_seeds(20, |random| {
+        let cases = conversions::at_the_limits(random);
+        assert_eq!(cases.len(), 8 * 3 * rooms);
+        for (i, case) in cases.iter().enumerate() {
+            let fits = i / rooms < 3;
+            let expected = match (fits, enough(i)) {
+                (true, true) => 0,
+                (true, false) => 10,
+                (false, _) => 16,
+            };
+            assert_eq!(number(case), expected);
+        }
+    });
+}
+
+#[test]
+fn one_colour_too_high_is_16_also_of_a_leftover() {
+    let rooms = Room::ALL.len();
+    for_seeds(20, |random| {
+        for (i, case) in conversions::one_high_colour(random).iter().enumerate() {
+            assert_eq!(number(case), 16);
+            let filter = LARGE.read(&case.a).expect("accepted");
+            let high = |&&colour: &&u64| colour > 15;
+            assert_eq!(filter.colours.iter().filter(high).count(), 1);
+            let state = filter.colours.iter().position(|colour| high(&colour));
+            let state = state.expect("a state") as u64;
+            let left_over = i / rooms % 2 == 1;
+            assert!(!left_over || !reached(&filter).contains(&state));
+        }
+    });
+}
+
+#[test]
+fn what_is_far_too_large_is_16_and_a_faulty_file_decides_before() {
+    for_seeds(20, |random| {
+        for case in conversions::far_too_large(random) {
+            let filter = LARGE.read(&case.a).expect("accepted");
+            assert_eq!(number(&case) == 16, !POCKET.can_hold(&filter));
+        }
+        for (i, case) in conversions::of_faulty_files(random).iter().enumerate() {
+            assert_eq!(usize::from(number(case)), i / 6 + 1);
+        }
+    });
+}
+
+#[test]
 fn a_few_batches_lead_to_every_kind_of_outcome() {
     let mut random = Random::new(seed_or(1));
-    let mut seen = BTreeSet::new();
+    let mut seen = Seen::default();
     for _ in 0..3 {
         for made in second::make::batch(&mut random) {
-            seen.extend(kinds::of(&made.case, &made.case.outcome()));
+            let kinds = kinds::of(&made.case, &made.case.outcome());
+            seen.add(made.case.call, kinds);
         }
     }
-    for kind in Call::ALL.into_iter().flat_map(kinds::all_of) {
-        assert!(seen.contains(&kind), "none is {kind:?}");
-    }
+    assert_eq!(seen.missing(), []);
+    assert_eq!(seen.beyond(), []);
 }
 
 #[test]

@@ -7,11 +7,12 @@ mod outputs;
 use common::{at_once, program, run, whole};
 use outputs::{in_pieces, run_on, some, wrote, Folder};
 use second::case::{Call, Case};
-use second::file::{write, Header};
+use second::file::write;
 use second::kinds::{self, Kind};
 use second::make::chains::plain;
 use second::make::filters::largest;
 use second::make::{files, reduces};
+use second::profile::LARGE;
 use second::program::{reduce, shrink, MOST_OF_A_FILE};
 use second::random::{seed, Random};
 use second::rides::*;
@@ -136,12 +137,8 @@ fn files_agree() {
         agree_on(&format!("SEED={seed}, file {nth}, family: {family}"), &file);
         seen.extend(kinds_of(file));
     }
-    let of_the_rooms = [
-        Kind::Number(Call::Reduce, 10),
-        Kind::Number(Call::Reduce, 11),
-        Kind::BothShort,
-    ];
-    let missing: Vec<Kind> = kinds::all_of(Call::Reduce)
+    let of_the_rooms = [Kind::Number(10), Kind::Number(11), Kind::BothShort];
+    let missing: Vec<Kind> = kinds::all_of(Call::Reduce(LARGE))
         .into_iter()
         // The programs' rooms are always enough.
         .filter(|kind| !of_the_rooms.contains(kind) && !seen.contains(kind))
@@ -152,8 +149,8 @@ fn files_agree() {
 fn kinds_of(mut file: Vec<u8>) -> Vec<Kind> {
     file.truncate(MOST_OF_A_FILE);
     let answer_room = vec![0; file.len()];
-    let entries = Header::of(&file).map_or(0, |header| header.n);
-    let case = Case::reduce(file, answer_room, vec![0; 2 * entries as usize]);
+    let entries = LARGE.header(&file).map_or(0, |header| header.n);
+    let case = Case::reduce(LARGE, file, answer_room, vec![0; 2 * entries as usize]);
     kinds::of(&case, &case.outcome())
 }
 
@@ -186,7 +183,7 @@ fn shrunk_again() {
 #[test]
 fn lengths_of_the_file() {
     let mut random = Random::new(seed());
-    let full = write(&largest(&mut random));
+    let full = write(&largest(LARGE, &mut random));
     assert_eq!(full.len(), 45_253);
     for length in [45_252, 45_253, 45_254, 45_255, 60_000, 200_000] {
         for ends_with in [0, 255] {
@@ -223,7 +220,7 @@ fn standard_input_is_left_where_the_file_ends() {
 #[test]
 fn standard_input_in_small_pieces() {
     let mut random = Random::new(seed());
-    let mut longer_than_the_largest = write(&largest(&mut random));
+    let mut longer_than_the_largest = write(&largest(LARGE, &mut random));
     longer_than_the_largest.push(0);
     let cut = &K[..17];
     for (file, size) in [

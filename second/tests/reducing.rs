@@ -1,10 +1,11 @@
 //! The second program's reducer against what documents 01 and 02 say in numbers, and against what must hold of any reduction.
 
-use second::file::{length, read, write, Filter};
+use second::file::{read, write, Filter};
 use second::make::chains::plain;
-use second::make::groups::{crowd, MANY_GROUPS};
+use second::make::groups::{crowd, many_groups};
 use second::make::traces::walk;
 use second::make::{leftovers, reduces};
+use second::profile::{Profile, PROFILES};
 use second::random::{seed, Random};
 use second::reach::reached;
 use second::reduce::{groups_made, reduce, stages, Reduced};
@@ -116,14 +117,17 @@ fn the_longest_chain_takes_254_rounds() {
 fn a_class_needs_as_many_groups_as_it_has_codes() {
     let seed = seed();
     let mut random = Random::new(seed);
-    for groups in MANY_GROUPS {
-        let alone = crowd(&mut random, groups, groups);
-        assert_eq!(reduce(&alone), kept(alone, 2, 1), "SEED={seed}");
-        let joined = crowd(&mut random, groups, 255);
-        let made = &groups_made(&stages(&joined))[0];
-        assert_eq!(made.len() as u64, groups, "SEED={seed}");
-        let members: usize = made.iter().map(|group| group.len()).sum();
-        assert_eq!(members, 255, "SEED={seed}");
+    for profile in PROFILES {
+        let most = profile.most_states() - 1;
+        for groups in many_groups(profile) {
+            let alone = crowd(profile, &mut random, groups, groups);
+            assert_eq!(reduce(&alone), kept(alone, 2, 1), "SEED={seed}");
+            let joined = crowd(profile, &mut random, groups, most);
+            let made = &groups_made(&stages(&joined))[0];
+            assert_eq!(made.len() as u64, groups, "SEED={seed}");
+            let members: usize = made.iter().map(|group| group.len()).sum();
+            assert_eq!(members as u64, most, "SEED={seed}");
+        }
     }
 }
 
@@ -148,19 +152,21 @@ fn what_holds_of_every_reduction() {
     let seed = seed();
     let mut random = Random::new(seed);
     let (mut folded, mut dropped) = (0, 0);
-    for _ in 0..100 {
+    let what = format!("SEED={seed}");
+    for profile in [PROFILES; 100].concat() {
         let cases = [
-            reduces::small_filters(&mut random),
-            reduces::sparse(&mut random),
-            reduces::copied_states(&mut random),
-            leftovers::anywhere(&mut random),
-            leftovers::before_between_and_behind(&mut random),
-            leftovers::leading_to_the_live(&mut random),
-        ];
+            reduces::small_filters,
+            reduces::sparse,
+            reduces::copied_states,
+            leftovers::anywhere,
+            leftovers::before_between_and_behind,
+            leftovers::leading_to_the_live,
+        ]
+        .map(|make| make(profile, &mut random));
         for case in cases.concat() {
-            let original = read(&case.a).expect("accepted");
+            let original = profile.read(&case.a).expect("accepted");
             let reduced = reduce(&original);
-            holds(&original, &reduced, &mut random, &format!("SEED={seed}"));
+            holds(profile, &original, &reduced, &mut random, &what);
             let live = reached(&original).len() as u64;
             folded += u32::from(reduced.filter.n() < live);
             dropped += u32::from(live < original.n());
@@ -170,7 +176,7 @@ fn what_holds_of_every_reduction() {
     assert!(dropped >= 100, "SEED={seed}: only {dropped} had leftovers");
 }
 
-fn holds(original: &Filter, reduced: &Reduced, random: &mut Random, what: &str) {
+fn holds(profile: Profile, original: &Filter, reduced: &Reduced, random: &mut Random, what: &str) {
     let filter = &reduced.filter;
     let live = reached(original);
     let bound = [
@@ -184,11 +190,9 @@ fn holds(original: &Filter, reduced: &Reduced, random: &mut Random, what: &str) 
         assert_eq!(number.is_some(), live.contains(&state), "{what}");
     }
     assert_eq!(reached(filter), (0..filter.n()).collect(), "{what}");
-    assert_eq!(read(&write(filter)), Ok(filter.clone()), "{what}");
-    assert!(
-        length(filter.n(), filter.e()) <= length(original.n(), original.e()),
-        "{what}"
-    );
+    let [short, long] = [filter, original].map(|filter| profile.write(filter));
+    assert_eq!(profile.read(&short), Ok(filter.clone()), "{what}");
+    assert!(short.len() <= long.len(), "{what}");
     let (observations, _) = walk(original, 40, random);
     assert_eq!(
         ride(filter, &observations),

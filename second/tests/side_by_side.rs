@@ -4,6 +4,7 @@
 use second::file::{read, Edge, Filter};
 use second::make::reduces;
 use second::make::traces::walk;
+use second::profile::LARGE;
 use second::random::{seed, Random};
 use second::reduce::{reduce, Reduced};
 use second::rides::*;
@@ -15,10 +16,8 @@ use std::collections::BTreeSet;
 fn filters(random: &mut Random) -> Vec<Filter> {
     let mut filters = Vec::new();
     for family in reduces::FAMILIES {
-        for _ in 0..family.times.min(40) {
-            let cases = (family.make)(random);
-            filters.extend(cases.iter().filter_map(|case| read(&case.a).ok()));
-        }
+        let cases = family.at_most(40, random);
+        filters.extend(cases.iter().filter_map(|case| read(&case.a).ok()));
     }
     filters
 }
@@ -144,7 +143,7 @@ fn reductions(random: &mut Random) -> Vec<(Filter, Reduced)> {
         reduces::copied_states,
         reduces::short_chains,
     ] {
-        for case in (0..10).flat_map(|_| make(random)) {
+        for case in (0..10).flat_map(|_| make(LARGE, random)) {
             let original = read(&case.a).expect("accepted");
             let reduced = reduce(&original);
             all.push((original, reduced));

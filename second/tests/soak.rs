@@ -108,23 +108,27 @@ fn ended(mut command: Command) -> (Option<i32>, String) {
     (status.code(), String::from_utf8(stdout).expect("a text"))
 }
 
+/// One first byte of files of three bytes, of 256, and one random batch.
 #[test]
 fn the_proved_program_agrees() {
     let seed = seed_or(7);
-    let mut command = soak(&["0"]);
+    let mut command = soak(&["0", "1"]);
     command.env("SEED", seed.to_string());
     let (status, text) = ended(command);
     assert_eq!(status, Some(0), "{text}");
     assert!(text.starts_with(&format!("SEED={seed}\n")), "{text}");
-    assert!(text.ends_with(" cases: no difference\n"), "{text}");
-    assert!(text.contains(" 1 batches, "), "{text}");
+    let of_three_bytes = " 1 batches, 65536 cases: files of three bytes, 1 of 256 first bytes\n";
+    assert!(text.contains(of_three_bytes), "{text}");
+    let last = text.lines().last().unwrap_or_default();
+    assert!(last.contains(" 2 batches, "), "{text}");
+    assert!(last.ends_with(" cases: no difference"), "{text}");
 }
 
 /// `shrink` finds no filter in a batch and writes nothing.
 #[test]
 fn another_program_differs_and_differs_again() {
     let other = Path::new(env!("CARGO_MANIFEST_DIR")).join("../target/bin/shrink");
-    let mut command = soak(&["0"]);
+    let mut command = soak(&["0", "0"]);
     command.env("SEED", seed().to_string());
     command.env("ANSWERS", other);
     let (status, text) = ended(command);
@@ -154,13 +158,15 @@ fn another_program_differs_and_differs_again() {
 fn what_cannot_be_compared_is_no_agreement() {
     for arguments in [
         &["ten"][..],
-        &["1", "2"],
+        &["1", "ten"],
+        &["1", "257"],
+        &["1", "2", "3"],
         &["again"],
         &["again", "missing.batch"],
     ] {
         assert_eq!(ended(soak(arguments)).0, Some(2), "{arguments:?}");
     }
-    let mut command = soak(&["0"]);
+    let mut command = soak(&["0", "0"]);
     command.env("ANSWERS", "missing");
     assert_eq!(ended(command).0, Some(2));
 }

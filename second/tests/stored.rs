@@ -1,8 +1,9 @@
 //! The batch that is stored beside `answers`, and its stored outcomes.
 
-use second::case::Call;
+use second::case::{Call, Case};
 use second::frame::{answer_batch, read_batch, write_batch};
 use second::kinds::{self, Kind};
+use second::profile::PROFILES;
 use second::stored;
 use std::collections::BTreeSet;
 use std::path::Path;
@@ -29,6 +30,14 @@ fn the_stored_batch_is_what_cases_prints() {
     );
 }
 
+fn kinds_of(call: Call, cases: &[Case]) -> BTreeSet<Kind> {
+    cases
+        .iter()
+        .filter(|case| case.call == call)
+        .flat_map(|case| kinds::of(case, &case.outcome()))
+        .collect()
+}
+
 #[test]
 fn the_stored_batch_has_every_number_and_stays_small() {
     let cases = stored::cases();
@@ -40,25 +49,32 @@ fn the_stored_batch_has_every_number_and_stays_small() {
             assert!(hit, "no {call:?} that answers {number}");
         }
     }
-    let seen: BTreeSet<Kind> = cases
-        .iter()
-        .filter(|case| case.call == Call::Reduce)
-        .flat_map(|case| kinds::of(case, &case.outcome()))
-        .collect();
-    for kind in [
-        Kind::NoRound,
-        Kind::ManyRounds,
-        Kind::Merged,
-        Kind::NothingMerged,
-        Kind::NothingDropped,
-        Kind::DroppedBefore,
-        Kind::DroppedBetween,
-        Kind::DroppedBehind,
-        Kind::AllButOneDropped,
-    ] {
-        assert!(seen.contains(&kind), "no reduction that is {kind:?}");
+    for call in PROFILES.map(Call::Reduce) {
+        let seen = kinds_of(call, &cases);
+        for kind in [
+            Kind::NoRound,
+            Kind::ManyRounds,
+            Kind::Merged,
+            Kind::NothingMerged,
+            Kind::NothingDropped,
+            Kind::DroppedBefore,
+            Kind::DroppedBetween,
+            Kind::DroppedBehind,
+            Kind::AllButOneDropped,
+        ] {
+            assert!(seen.contains(&kind), "no {call:?} that is {kind:?}");
+        }
+    }
+    for call in Call::ALL {
+        let seen = kinds_of(call, &cases);
+        let is_wanted = |kind: &Kind| matches!(kind, Kind::AtField(..) | Kind::OneHighColour(_));
+        for kind in kinds::all_of(call).into_iter().filter(is_wanted) {
+            assert!(seen.contains(&kind), "no {call:?} that is {kind:?}");
+        }
     }
     let batch = write_batch(&cases);
-    assert!(batch.len() <= 90_000, "{} bytes", batch.len());
+    // Half of it is the largest file alone. The calls of pocket files and the conversions took it from 90,000 bytes to this;
+    // the kit's interpreter runs it too, so it should not grow without need.
+    assert!(batch.len() <= 115_000, "{} bytes", batch.len());
     assert_eq!(read_batch(&batch), cases);
 }

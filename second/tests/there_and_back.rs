@@ -1,38 +1,24 @@
 //! What is drawn is read back: where both sides accept, reading what was written gives the filter.
 
-use second::case::{Case, Outcome};
-use second::compare::Batch;
+#[path = "common/agreed.rs"]
+mod agreed;
+
+use agreed::written;
+use second::case::Case;
 use second::dot::{can_be_drawn, read, write};
 use second::file;
 use second::frame::LONGEST;
 use second::make::filters::{large, largest, shapes};
 use second::make::texts::{accepted, drawable};
-use second::make::Made;
+use second::profile::LARGE;
 use second::random::{seed, Random};
-
-/// Compares the programs, and gives what both have written to the front of each room.
-fn written(family: &'static str, cases: Vec<Case>) -> Vec<Vec<u8>> {
-    let made: Vec<Made> = cases
-        .into_iter()
-        .map(|case| Made { family, case })
-        .collect();
-    let batch = Batch::new(format!("second-{}", std::process::id()), made);
-    let outcomes = batch
-        .compare()
-        .unwrap_or_else(|difference| panic!("{}", difference.report));
-    let front = |outcome: Outcome| {
-        assert_eq!(outcome.answer.number, 0);
-        outcome.c[..outcome.answer.counts[0] as usize].to_vec()
-    };
-    outcomes.into_iter().map(front).collect()
-}
 
 #[test]
 fn filters_come_back() {
     let mut random = Random::new(seed());
-    let mut filters = vec![largest(&mut random), large(&mut random)];
+    let mut filters = vec![largest(LARGE, &mut random), large(LARGE, &mut random)];
     for _ in 0..60 {
-        filters.extend(shapes(&mut random));
+        filters.extend(shapes(LARGE, &mut random));
     }
     let mut files = Vec::new();
     let mut draw = Vec::new();

@@ -11,6 +11,7 @@ use second::file::{read, write};
 use second::kinds::{self, Kind};
 use second::make::filters::{filter, largest};
 use second::make::{files, traces};
+use second::profile::LARGE;
 use second::program::{trace, MOST_OF_A_FILE, MOST_OF_THE_OBSERVATIONS};
 use second::random::{seed, Random};
 use second::rides::*;
@@ -112,7 +113,7 @@ fn pairs_agree() {
         pair(&folder, &what, &file, &observations);
         seen.extend(kinds_of(file, observations));
     }
-    let missing: Vec<Kind> = kinds::all_of(Call::Trace)
+    let missing: Vec<Kind> = kinds::all_of(Call::Trace(LARGE))
         .into_iter()
         // The program's room is always enough.
         .filter(|kind| *kind != Kind::ShortRoom && !seen.contains(kind))
@@ -124,7 +125,7 @@ fn kinds_of(mut file: Vec<u8>, mut observations: Vec<u8>) -> Vec<Kind> {
     file.truncate(MOST_OF_A_FILE);
     observations.truncate(MOST_OF_THE_OBSERVATIONS);
     let room = vec![0; observations.len() + 1];
-    let case = Case::trace(file, observations, room);
+    let case = Case::trace(LARGE, file, observations, room);
     kinds::of(&case, &case.outcome())
 }
 
@@ -247,7 +248,7 @@ fn further_arguments_are_ignored() {
 fn lengths_of_the_file() {
     let folder = Folder::new("trace-file-lengths");
     let mut random = Random::new(seed());
-    let full = write(&largest(&mut random));
+    let full = write(&largest(LARGE, &mut random));
     assert_eq!(full.len(), 45_253);
     let observations: Vec<u8> = (0..200).map(|_| random.between(0, 63) as u8).collect();
     for length in [45_252, 45_253, 45_254, 45_255, 60_000, 200_000] {
@@ -313,9 +314,9 @@ fn standard_input_in_small_pieces() {
     let pause = Duration::from_millis(2);
     for (size, count) in [(1, 40), (2, 41), (3, 100), (7, 100)] {
         for case in [
-            traces::full_rides(&mut random).swap_remove(60),
-            traces::stopped_rides(&mut random).swap_remove(8),
-            traces::labels_outside(&mut random).swap_remove(20),
+            traces::full_rides(LARGE, &mut random).swap_remove(60),
+            traces::stopped_rides(LARGE, &mut random).swap_remove(8),
+            traces::labels_outside(LARGE, &mut random).swap_remove(20),
         ] {
             let path = folder.file("pieces.filter", &case.a);
             let mut observations = case.b.clone();
@@ -360,7 +361,7 @@ fn a_slow_reader_of_a_long_ride() {
     let folder = Folder::new("trace-slow");
     let mut random = Random::new(seed());
     // Every pair has an edge, so the ride goes on to the end.
-    let filter = filter(&mut random, 9, 5, 45);
+    let filter = filter(LARGE, &mut random, 9, 5, 45);
     let file = write(&filter);
     let path = folder.file("slow.filter", &file);
     let observations: Vec<u8> = (0..65_535).map(|_| random.between(0, 4) as u8).collect();
@@ -377,7 +378,7 @@ fn a_slow_reader_of_a_long_ride() {
 fn the_longest_ride_through_the_largest_file() {
     let folder = Folder::new("trace-longest");
     let mut random = Random::new(seed());
-    let file = write(&largest(&mut random));
+    let file = write(&largest(LARGE, &mut random));
     assert!(read(&file).is_ok());
     let observations: Vec<u8> = (0..65_535).map(|_| random.between(0, 63) as u8).collect();
     pair(&folder, "the longest ride", &file, &observations);

@@ -1,12 +1,16 @@
 //! Errors that look right in reading and drawing, made on purpose: the families of a batch tell each of them from what
 //! document 02 says.
 
+#[path = "common/errors.rs"]
+mod errors;
+
+use errors::{differing, made, told_apart};
 use second::case::Case;
 use second::dot::{self, labels_up_to, Drawing};
-use second::file::{judge_list, read, write, Edge, Filter, Header};
+use second::file::{judge_list, read, write, Edge, Filter};
 use second::make::{contents, drawings, texts, Family};
+use second::profile::LARGE;
 use second::random::{seed, Random};
-use std::fmt;
 
 /// Number, place, and what is written.
 type Told = (u8, u64, Vec<u8>);
@@ -23,40 +27,8 @@ fn refused(number: u8, place: u64) -> Told {
 }
 
 /// The cases of one batch, and what they come to.
-fn tried(families: &[&[Family<Case>]], random: &mut Random) -> Vec<(Case, Told)> {
-    let mut cases = Vec::new();
-    for family in families.iter().copied().flatten() {
-        for _ in 0..family.times {
-            cases.extend((family.make)(random));
-        }
-    }
-    // The longest show nothing that others do not.
-    cases.retain(|case| case.a.len() < 20_000);
-    cases
-        .into_iter()
-        .map(|case| {
-            let told = told(&case);
-            (case, told)
-        })
-        .collect()
-}
-
-/// How many cases come to something else with an error; `None` where it makes no difference.
-fn differing(tried: &[(Case, Told)], wrong: impl Fn(&Case) -> Option<Told>) -> usize {
-    let differs = |(case, told): &&(Case, Told)| wrong(case).is_some_and(|wrong| wrong != *told);
-    tried.iter().filter(differs).count()
-}
-
-/// Fails unless so many cases tell the error from what is right.
-fn told_apart(
-    tried: &[(Case, Told)],
-    error: impl fmt::Debug,
-    least: usize,
-    wrong: impl Fn(&Case) -> Option<Told>,
-) {
-    let count = differing(tried, wrong);
-    println!("{error:?}: {count}");
-    assert!(count >= least, "{error:?}: only {count}");
+fn tried(families: &[&[Family<Case>]]) -> Vec<(Case, Told)> {
+    errors::tried(made(families, &mut Random::new(seed())), told)
 }
 
 /// A text that is taken though it is outside the profile, as if it were this one.
@@ -156,7 +128,7 @@ fn reordered(text: &str, order: impl Fn(&mut Vec<String>)) -> String {
 #[test]
 fn texts_outside_the_profile_that_are_taken() {
     let families = [texts::FAMILIES, contents::FAMILIES];
-    let tried = tried(&families, &mut Random::new(seed()));
+    let tried = tried(&families);
     for error in Taken::ALL {
         told_apart(&tried, error, 3, |case| {
             dot::read(&case.a).err()?;
@@ -217,7 +189,7 @@ impl Place {
 
 #[test]
 fn places_that_are_not_the_longest_beginnings() {
-    let tried = tried(&[texts::FAMILIES], &mut Random::new(seed()));
+    let tried = tried(&[texts::FAMILIES]);
     for error in Place::ALL {
         told_apart(&tried, error, 20, |case| {
             let place = dot::read(&case.a).err()?;
@@ -361,7 +333,7 @@ impl Judged {
 #[test]
 fn numbers_that_are_taken_or_judged_wrongly() {
     let families = [texts::FAMILIES, contents::FAMILIES];
-    let tried = tried(&families, &mut Random::new(seed()));
+    let tried = tried(&families);
     let wrong = |error: Judged, case: &Case| {
         let drawing = dot::read(&case.a).ok()?;
         Some(error.told(drawing, case.c.len()))
@@ -434,12 +406,12 @@ impl Drawn {
 
 #[test]
 fn filters_that_are_drawn_wrongly() {
-    let tried = tried(&[drawings::FAMILIES], &mut Random::new(seed()));
+    let tried = tried(&[drawings::FAMILIES]);
     let wrong = |error: Drawn, case: &Case| match read(&case.a) {
         Ok(filter) => Some(error.told(filter, case.c.len())),
         Err(refusal) => {
             let of_an_edge = (7..=9).contains(&refusal.number);
-            let other_start = Header::of(&case.a)?.start != 0;
+            let other_start = LARGE.header(&case.a)?.start != 0;
             let before = error == Drawn::BeforeTheEdges && of_an_edge && other_start;
             before.then(|| refused(15, 0))
         }

@@ -4,6 +4,7 @@
 use second::case::Case;
 use second::file::{read, Edge, Filter};
 use second::make::{leftovers, reduces};
+use second::profile::{Profile, PROFILES};
 use second::random::{seed, Random};
 use second::reduce::reduce;
 use second::rides::*;
@@ -313,8 +314,9 @@ fn ride_p_tells_what_becomes_of_leftovers() {
     assert_eq!(Wrong::reduce(&p, Error::ColoursOfAll).distinct_colours, 2);
 }
 
-fn filters(cases: impl Iterator<Item = Case>) -> Vec<Filter> {
-    cases.map(|case| read(&case.a).expect("accepted")).collect()
+fn filters(profile: Profile, cases: impl Iterator<Item = Case>) -> Vec<Filter> {
+    let filter = |case: Case| profile.read(&case.a).expect("accepted");
+    cases.map(filter).collect()
 }
 
 /// No error at all is never told, each of the others often enough.
@@ -331,21 +333,25 @@ fn each_is_told(filters: &[Filter], errors: &[Error], seed: u64) {
 fn small_filters_tell_the_errors() {
     let seed = seed();
     let mut random = Random::new(seed);
-    let cases = (0..300).flat_map(|_| reduces::small_filters(&mut random));
-    let filters = filters(cases);
-    each_is_told(&filters, &OF_CLASSES, seed);
-    each_is_told(&filters, &OF_LEFTOVERS, seed);
+    for profile in PROFILES {
+        let cases = (0..300).flat_map(|_| reduces::small_filters(profile, &mut random));
+        let filters = filters(profile, cases);
+        each_is_told(&filters, &OF_CLASSES, seed);
+        each_is_told(&filters, &OF_LEFTOVERS, seed);
+    }
 }
 
 #[test]
 fn filters_with_leftovers_tell_the_errors() {
     let seed = seed();
     let mut random = Random::new(seed);
-    let cases = (0..100).flat_map(|_| leftovers::anywhere(&mut random));
     // Where a state is left over, no other is as far as it takes to forget the last step.
     let mut errors = OF_LEFTOVERS.to_vec();
     errors.retain(|&error| error != Error::LastStepForgotten);
-    each_is_told(&filters(cases), &errors, seed);
+    for profile in PROFILES {
+        let cases = (0..100).flat_map(|_| leftovers::anywhere(profile, &mut random));
+        each_is_told(&filters(profile, cases), &errors, seed);
+    }
 }
 
 /// The families that were made for an error tell it each time; the largest filters would take these reducers too long.
@@ -353,10 +359,10 @@ fn filters_with_leftovers_tell_the_errors() {
 fn each_error_has_a_family() {
     let seed = seed();
     let mut random = Random::new(seed);
-    for _ in 0..10 {
+    for profile in [PROFILES; 10].concat() {
         for (make, error) in [
             (
-                leftovers::the_first_state as fn(&mut Random) -> _,
+                leftovers::the_first_state as fn(Profile, &mut Random) -> _,
                 Error::FromStateZero,
             ),
             (leftovers::with_own_colours, Error::ColoursOfAll),
@@ -364,8 +370,8 @@ fn each_error_has_a_family() {
             (leftovers::keeping_apart, Error::DroppedTakesPart),
             (leftovers::all_but_the_start, Error::ZeroInTheList),
         ] {
-            let cases: Vec<Case> = make(&mut random);
-            let mut filters = filters(cases.into_iter());
+            let cases: Vec<Case> = make(profile, &mut random);
+            let mut filters = filters(profile, cases.into_iter());
             filters.retain(|filter| filter.n() <= 60);
             assert!(!filters.is_empty(), "SEED={seed}, {error:?}");
             for filter in filters {
@@ -380,10 +386,10 @@ fn each_error_has_a_family() {
 fn leftovers_that_take_part_leave_more_states() {
     let seed = seed();
     let mut random = Random::new(seed);
-    for _ in 0..50 {
-        let cases = leftovers::keeping_apart(&mut random);
+    for profile in [PROFILES; 50].concat() {
+        let cases = leftovers::keeping_apart(profile, &mut random);
         // The first is P, in which only a round is gained.
-        for filter in filters(cases.into_iter().skip(1)) {
+        for filter in filters(profile, cases.into_iter().skip(1)) {
             let more = Wrong::reduce(&filter, Error::DroppedTakesPart);
             let (own, more) = (right(&filter).colours.len(), more.colours.len());
             assert!(more > own, "SEED={seed}: {filter:?}");

@@ -1,6 +1,8 @@
-//! `soak [SECONDS]` puts random batches to the proved `answers` and to the second program, for so long (600 where no number
-//! is given) and at least one batch, and compares the outcomes to the last byte. At the first difference it says what
-//! differs, saves it and prints the command that compares it again, which is `soak again BATCH`.
+//! `soak [SECONDS [BEGINNINGS]]` puts every file of three bytes to the proved `answers` and to the second program, to be checked
+//! as a pocket file, and then random batches for so long (600 where no number is given) and at least one batch, and compares
+//! the outcomes to the last byte. The files go by their first byte; where a second number is given, it is how many of the 256
+//! first bytes are taken. At the first difference it says what differs, saves it and prints the command that compares it again,
+//! which is `soak again BATCH`.
 //!
 //! The environment variable SEED makes a run again, batch by batch; ANSWERS names another program to compare with than
 //! target/bin/answers. The status is 0 where everything agreed, 1 after a difference, and 2 where there was nothing to
@@ -8,6 +10,7 @@
 
 use second::compare::Batch;
 use second::frame::read_batch;
+use second::make::three_bytes::beginning_with;
 use second::make::{self, Made};
 use second::proved::program;
 use second::random::{unprinted_seed, Random};
@@ -16,6 +19,8 @@ use std::process::ExitCode;
 use std::time::{Duration, Instant};
 
 const TEN_MINUTES: Duration = Duration::from_secs(600);
+/// As many first bytes as there are.
+const ALL: u16 = 256;
 /// Between two lines of progress.
 const PAUSE: Duration = Duration::from_secs(10);
 
@@ -25,19 +30,24 @@ fn main() -> ExitCode {
     if let Err(error) = program("answers") {
         return nothing_compared(&error);
     }
-    match arguments[..] {
-        [] => soak(TEN_MINUTES),
-        ["again", path] => again(path),
-        [seconds] => match seconds.parse() {
-            Ok(seconds) => soak(Duration::from_secs(seconds)),
-            Err(_) => usage(),
-        },
-        _ => usage(),
+    if let ["again", path] = arguments[..] {
+        return again(path);
+    }
+    match asked_for(&arguments) {
+        Some((time, beginnings)) => soak(time, beginnings),
+        None => nothing_compared("usage: soak [SECONDS [BEGINNINGS]] | soak again BATCH"),
     }
 }
 
-fn usage() -> ExitCode {
-    nothing_compared("usage: soak [SECONDS] | soak again BATCH")
+fn asked_for(arguments: &[&str]) -> Option<(Duration, u16)> {
+    let seconds = |text: &str| Some(Duration::from_secs(text.parse().ok()?));
+    let beginnings = |text: &str| text.parse().ok().filter(|&count| count <= ALL);
+    match *arguments {
+        [] => Some((TEN_MINUTES, ALL)),
+        [time] => Some((seconds(time)?, ALL)),
+        [time, count] => Some((seconds(time)?, beginnings(count)?)),
+        _ => None,
+    }
 }
 
 fn nothing_compared(why: &str) -> ExitCode {
@@ -50,6 +60,7 @@ struct Agreed {
     since: Instant,
     batches: u64,
     cases: usize,
+    said: Instant,
 }
 
 impl fmt::Display for Agreed {
@@ -60,31 +71,51 @@ impl fmt::Display for Agreed {
     }
 }
 
-fn soak(time: Duration) -> ExitCode {
+impl Agreed {
+    /// Compares one more batch, and says whether it agrees.
+    fn with(&mut self, batch: Batch) -> bool {
+        if let Err(difference) = batch.compare() {
+            let soak = std::env::current_exe().unwrap_or_default();
+            println!("{self}: all agreed, but not the next batch");
+            println!("{}", difference.report);
+            print!("{}", batch.save(&difference, &soak));
+            return false;
+        }
+        self.batches += 1;
+        self.cases += batch.cases().len();
+        if self.said.elapsed() >= PAUSE {
+            println!("{self}");
+            self.said = Instant::now();
+        }
+        true
+    }
+}
+
+fn soak(time: Duration, beginnings: u16) -> ExitCode {
     let seed = unprinted_seed();
     println!("SEED={seed}");
-    let mut random = Random::new(seed);
     let mut agreed = Agreed {
         since: Instant::now(),
         batches: 0,
         cases: 0,
+        said: Instant::now(),
     };
-    let mut said = Instant::now();
-    while agreed.batches == 0 || agreed.since.elapsed() < time {
-        let name = format!("second-{seed}-{}", agreed.batches);
-        let batch = Batch::new(name, make::batch(&mut random));
-        if let Err(difference) = batch.compare() {
-            let soak = std::env::current_exe().unwrap_or_default();
-            println!("{agreed}: all agreed, but not the next batch");
-            println!("{}", difference.report);
-            print!("{}", batch.save(&difference, &soak));
+    for first in (0..=u8::MAX).take(beginnings.into()) {
+        let name = format!("second-{seed}-beginning-{first}");
+        if !agreed.with(Batch::new(name, beginning_with(first))) {
             return ExitCode::FAILURE;
         }
-        agreed.batches += 1;
-        agreed.cases += batch.cases().len();
-        if said.elapsed() >= PAUSE {
-            println!("{agreed}");
-            said = Instant::now();
+    }
+    println!("{agreed}: files of three bytes, {beginnings} of {ALL} first bytes");
+    let mut random = Random::new(seed);
+    let since = Instant::now();
+    for nth in 0.. {
+        let name = format!("second-{seed}-{nth}");
+        if !agreed.with(Batch::new(name, make::batch(&mut random))) {
+            return ExitCode::FAILURE;
+        }
+        if since.elapsed() >= time {
+            break;
         }
     }
     println!("{agreed}: no difference");

@@ -3,6 +3,8 @@
 //! fewer than it has states.
 
 use crate::file::{Edge, Filter};
+use crate::make::filters::any_colours;
+use crate::profile::Profile;
 use crate::random::Random;
 use crate::rides::filter_of;
 
@@ -30,8 +32,8 @@ enum Way {
 /// state of the first, leads to all of them. Behind the last may come a tail that becomes one state; the other states have no
 /// part in this, whatever their colour. One label has the edges of the chains, the others some that take no round more or
 /// less.
-pub fn chains(random: &mut Random, n: u64, m: u64, lengths: &[u64]) -> Filter {
-    let (colours, next, start) = lines(random, n, lengths);
+pub fn chains(profile: Profile, random: &mut Random, n: u64, m: u64, lengths: &[u64]) -> Filter {
+    let (colours, next, start) = lines(profile, random, n, lengths);
     let chained = random.between(0, m - 1);
     // Of the other labels' edges all are there, most, half or none.
     let missing = random.pick(&[None, Some(10), Some(2), Some(1)]);
@@ -73,9 +75,14 @@ fn any_way(random: &mut Random, n: u64) -> Way {
 /// The colour of each state, its next in a chain, from the end of one to the next chain and in the tail, and the first state
 /// of all. A chain's last state is the only one of its colour that leads on, and the tail has a colour of its own, so that
 /// neither takes a round.
-fn lines(random: &mut Random, n: u64, lengths: &[u64]) -> (Vec<u64>, Vec<Option<u64>>, u64) {
-    let palette = random.shuffled(64);
-    let mut colours: Vec<u64> = (0..n).map(|_| random.between(0, 63)).collect();
+fn lines(
+    profile: Profile,
+    random: &mut Random,
+    n: u64,
+    lengths: &[u64],
+) -> (Vec<u64>, Vec<Option<u64>>, u64) {
+    let palette = random.shuffled(profile.top_colour() + 1);
+    let mut colours = any_colours(profile, random, n);
     let mut next = vec![None; n as usize];
     let order = in_some_order(random, n);
     let mut begins = 0;

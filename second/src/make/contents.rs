@@ -4,11 +4,12 @@ use crate::case::Case;
 use crate::dot;
 use crate::file::{Edge, Filter};
 use crate::frame::LONGEST;
-use crate::make::damage::{outside, Damage};
+use crate::make::damage::{outside, Damage, Tops};
 use crate::make::filters::{filter, largest, shapes};
 use crate::make::rooms::Room;
 use crate::make::texts::{drawable, framed, in_any_rooms, in_room, text_of};
 use crate::make::Family;
+use crate::profile::LARGE;
 use crate::random::Random;
 
 pub const FAMILIES: &[Family<Case>] = &[
@@ -108,7 +109,7 @@ pub fn at_the_limits(random: &mut Random) -> Vec<Case> {
         ] {
             for field in 0..4 {
                 // Edges of different sources, so that the labels can be any.
-                let mut filter = filter(random, n, 1, 4);
+                let mut filter = filter(LARGE, random, n, 1, 4);
                 let at = random.between(0, 3) as usize;
                 match field {
                     0 => filter.colours[at] = number,
@@ -126,9 +127,9 @@ pub fn at_the_limits(random: &mut Random) -> Vec<Case> {
 /// As many edges as there can be and some more, each of which is allowed alone.
 pub fn too_many_edges(random: &mut Random) -> Vec<Case> {
     let mut texts = Vec::new();
-    for base in shapes(random) {
+    for base in shapes(LARGE, random) {
         if base.n() * base.m <= 300 {
-            let mut full = drawable(filter(random, base.n(), base.m, base.n() * base.m));
+            let mut full = drawable(filter(LARGE, random, base.n(), base.m, base.n() * base.m));
             fill_up(&mut full, random);
             texts.push(text_of(&full));
         }
@@ -166,7 +167,7 @@ fn damageable(random: &mut Random) -> Filter {
     };
     let m = random.between(2, 64);
     let e = random.between(4, n.min(20));
-    drawable(filter(random, n, m, e))
+    drawable(filter(LARGE, random, n, m, e))
 }
 
 /// As in a file, but with ends that no file can hold too.
@@ -177,7 +178,7 @@ fn damage(filter: &mut Filter, damage: Damage, at: usize, random: &mut Random) {
     match damage {
         Damage::Source => filter.edges[at].source = end,
         Damage::Target => filter.edges[at].target = end,
-        _ => damage.apply(filter, at, 63, random),
+        _ => damage.apply(filter, at, Tops::of_files(LARGE), random),
     }
 }
 
@@ -276,7 +277,7 @@ fn two_of(pair: (u8, u8), random: &mut Random) -> Case {
 /// The most that a file can hold, in each room; then spoilt somewhere, with another byte, and cut off; and more edges than
 /// any file has, in a text that may be as long as a case can hold.
 pub fn largest_texts(random: &mut Random) -> Vec<Case> {
-    let full = drawable(largest(random));
+    let full = drawable(largest(LARGE, random));
     let text = text_of(&full);
     let mut cases = Vec::new();
     for room in Room::ALL {

@@ -1,8 +1,33 @@
 //! Edges made faulty, in filters that were in order.
 
 use crate::file::Filter;
+use crate::kinds::Field;
 use crate::make::filters::damageable;
+use crate::profile::Profile;
 use crate::random::Random;
+
+/// The most that an edge's fields can say.
+#[derive(Clone, Copy)]
+pub struct Tops {
+    /// Of a source or a target.
+    pub end: u64,
+    pub label: u64,
+}
+
+impl Tops {
+    /// A byte each.
+    pub const OF_LISTS: Tops = Tops {
+        end: 255,
+        label: 255,
+    };
+
+    pub fn of_files(profile: Profile) -> Tops {
+        Tops {
+            end: profile.most_states() - 1,
+            label: profile.most_labels() - 1,
+        }
+    }
+}
 
 #[derive(Clone, Copy, Debug, PartialEq, Eq)]
 pub enum Damage {
@@ -49,24 +74,24 @@ impl Damage {
     }
 
     /// The bit that a refusal names for this damage of edge `at` of a file, where no other is told before it.
-    pub fn bit(self, filter: &Filter, at: usize) -> u64 {
-        let within = match self {
-            Damage::Label => 8,
-            Damage::Target => 14,
-            _ => 0,
+    pub fn bit(self, profile: Profile, filter: &Filter, at: usize) -> u64 {
+        let field = match self {
+            Damage::Label => Field::Label,
+            Damage::Target => Field::Target,
+            _ => Field::Source,
         };
-        37 + 6 * filter.n() + 22 * at as u64 + within
+        profile.bits(filter.n(), at as u64) + field.within(profile)
     }
 
-    /// Makes edge `at` faulty and leaves those before it in order. `top_label` is the most that a label's field holds.
-    pub fn apply(self, filter: &mut Filter, at: usize, top_label: u64, random: &mut Random) {
+    /// Makes edge `at` faulty and leaves those before it in order.
+    pub fn apply(self, filter: &mut Filter, at: usize, tops: Tops, random: &mut Random) {
         let n = filter.n();
         let m = filter.m;
         let edges = &mut filter.edges;
         match self {
-            Damage::Source => edges[at].source = outside(random, n, 255),
-            Damage::Label => edges[at].label = outside(random, m, top_label),
-            Damage::Target => edges[at].target = outside(random, n, 255),
+            Damage::Source => edges[at].source = outside(random, n, tops.end),
+            Damage::Label => edges[at].label = outside(random, m, tops.label),
+            Damage::Target => edges[at].target = outside(random, n, tops.end),
             Damage::Before => edges.swap(at - 1, at),
             Damage::EqualSameTarget => edges[at] = edges[at - 1],
             Damage::EqualOtherTarget => {
@@ -79,24 +104,24 @@ impl Damage {
 }
 
 /// Gives one edge a fault of this number, 7 to 9.
-pub fn damage_one(filter: &mut Filter, number: u8, top_label: u64, random: &mut Random) {
+pub fn damage_one(filter: &mut Filter, number: u8, tops: Tops, random: &mut Random) {
     let kinds: Vec<Damage> = Damage::ALL
         .into_iter()
         .filter(|damage| damage.number() == number)
         .collect();
     let damage = random.pick(&kinds);
     let at = random.pick(&damage.places(filter));
-    damage.apply(filter, at, top_label, random);
+    damage.apply(filter, at, tops, random);
 }
 
 /// Each damage in the earliest, a middle and the last edge.
-pub fn one_faulty_edge(top_label: u64, random: &mut Random) -> Vec<Filter> {
+pub fn one_faulty_edge(profile: Profile, tops: Tops, random: &mut Random) -> Vec<Filter> {
     let mut filters = Vec::new();
     for damage in Damage::ALL {
         for nth in 0..3 {
-            let mut filter = damageable(random);
+            let mut filter = damageable(profile, random);
             let at = damage.places(&filter)[nth];
-            damage.apply(&mut filter, at, top_label, random);
+            damage.apply(&mut filter, at, tops, random);
             filters.push(filter);
         }
     }
@@ -125,16 +150,20 @@ pub struct Damaged {
 }
 
 /// Each of `TOGETHER` in the earliest, a middle and the last edge that can have it.
-pub fn several_faults_in_an_edge(top_label: u64, random: &mut Random) -> Vec<Damaged> {
+pub fn several_faults_in_an_edge(
+    profile: Profile,
+    tops: Tops,
+    random: &mut Random,
+) -> Vec<Damaged> {
     let mut all = Vec::new();
     for damages in TOGETHER {
         // The order's damage moves whole edges, so it is done first; and it is the one that the first edge cannot have.
         let last = damages[damages.len() - 1];
         for nth in 0..3 {
-            let mut filter = damageable(random);
+            let mut filter = damageable(profile, random);
             let edge = last.places(&filter)[nth];
             for damage in damages.iter().rev() {
-                damage.apply(&mut filter, edge, top_label, random);
+                damage.apply(&mut filter, edge, tops, random);
             }
             all.push(Damaged { filter, edge });
         }
@@ -143,17 +172,17 @@ pub fn several_faults_in_an_edge(top_label: u64, random: &mut Random) -> Vec<Dam
 }
 
 /// Each damage in an edge and each in a later one.
-pub fn two_faulty_edges(top_label: u64, random: &mut Random) -> Vec<Damaged> {
+pub fn two_faulty_edges(profile: Profile, tops: Tops, random: &mut Random) -> Vec<Damaged> {
     let mut all = Vec::new();
     for earlier in Damage::ALL {
         for later in Damage::ALL {
-            let mut filter = damageable(random);
+            let mut filter = damageable(profile, random);
             // Two apart, so that neither damage touches the other's edge.
             let last = filter.edges.len() as u64 - 1;
             let at = random.between(earlier.earliest() as u64, last - 2);
             let behind = random.between(at + 2, last);
-            later.apply(&mut filter, behind as usize, top_label, random);
-            earlier.apply(&mut filter, at as usize, top_label, random);
+            later.apply(&mut filter, behind as usize, tops, random);
+            earlier.apply(&mut filter, at as usize, tops, random);
             let edge = at as usize;
             all.push(Damaged { filter, edge });
         }

@@ -1,11 +1,13 @@
 //! A file before it is written, which can be spoilt in several ways at once.
 
 use crate::bits::{bytes_of, free_bits, push};
-use crate::file::{fields, length, Edge, Filter};
-use crate::make::damage::{damage_one, outside};
+use crate::file::{Edge, Filter};
+use crate::make::damage::{damage_one, outside, Tops};
+use crate::profile::Profile;
 use crate::random::Random;
 
 pub struct Draft {
+    pub profile: Profile,
     pub filter: Filter,
     /// What the header says of the number of edges.
     pub e: u64,
@@ -18,8 +20,9 @@ pub struct Draft {
 }
 
 impl Draft {
-    pub fn of(filter: Filter) -> Draft {
+    pub fn of(profile: Profile, filter: Filter) -> Draft {
         Draft {
+            profile,
             e: filter.e(),
             filter,
             filling: 0,
@@ -29,7 +32,7 @@ impl Draft {
     }
 
     pub fn bytes(&self) -> Vec<u8> {
-        let mut row = fields(&self.filter, self.e);
+        let mut row = self.profile.fields(&self.filter, self.e);
         let free = free_bits(row.len());
         push(&mut row, self.filling % (1 << free), free);
         let mut bytes = bytes_of(&row);
@@ -42,7 +45,12 @@ impl Draft {
 
     /// How many filling bits the file has.
     pub fn free(&self) -> usize {
-        free_bits(fields(&self.filter, self.e).len())
+        self.free_with(self.filter.e())
+    }
+
+    /// How many it would have with so many edges.
+    fn free_with(&self, edges: u64) -> usize {
+        free_bits(self.profile.bits(self.filter.n(), edges) as usize)
     }
 
     /// Gives it the fault of this number, 1 to 9. For two at once: those of the header first, then the edges', then
@@ -50,13 +58,18 @@ impl Draft {
     pub fn spoil(&mut self, number: u8, random: &mut Random) {
         let n = self.filter.n();
         let m = self.filter.m;
-        let have = length(n, self.filter.e());
+        let least = self.profile.header_bytes() as u64;
+        let have = self.profile.length(n, self.filter.e());
+        let tops = Tops::of_files(self.profile);
         match number {
-            1 => self.keep = Some(random.between(0, 4) as usize),
-            2 => self.filter.start = outside(random, n, 255),
+            1 => self.keep = Some(random.between(0, least - 1) as usize),
+            2 => self.filter.start = outside(random, n, tops.end),
             3 => {
+                let mut too_many = vec![n * m + 1, n * m + 2, n * m + 3];
+                // So that it can have fault 6 too.
+                too_many.retain(|&edges| self.free_with(edges) > 0);
+                self.e = random.pick(&too_many);
                 // The edges are there, so that the length is right and only their number is wrong.
-                self.e = n * m + random.between(1, 3);
                 while self.filter.e() < self.e {
                     self.filter.edges.push(Edge {
                         source: n - 1,
@@ -66,8 +79,8 @@ impl Draft {
                 }
             }
             4 => {
-                let shorter = random.between(5, have - 1);
-                self.keep = Some(random.pick(&[5, have - 1, shorter]) as usize);
+                let shorter = random.between(least, have - 1);
+                self.keep = Some(random.pick(&[least, have - 1, shorter]) as usize);
             }
             5 => {
                 let more = random.between(1, 4) as usize;
@@ -78,7 +91,7 @@ impl Draft {
                 };
             }
             6 => self.filling = random.between(1, (1 << self.free()) - 1),
-            _ => damage_one(&mut self.filter, number, 63, random),
+            _ => damage_one(&mut self.filter, number, tops, random),
         }
     }
 }

@@ -9,6 +9,7 @@ use crate::make::filters::{damageable, filter, largest, shapes};
 use crate::make::rooms::{any, unused_string, Room};
 use crate::make::texts::{drawable, text_of};
 use crate::make::{files, Family};
+use crate::profile::LARGE;
 use crate::random::Random;
 use crate::rides::{ride_l, ride_m, ride_n, ride_p, C, K, K_REDUCED};
 
@@ -82,7 +83,7 @@ pub fn of_the_document(random: &mut Random) -> Vec<Case> {
 
 /// Each shape in each room.
 pub fn drawn(random: &mut Random) -> Vec<Case> {
-    let filters: Vec<Filter> = shapes(random).into_iter().map(drawable).collect();
+    let filters: Vec<Filter> = shapes(LARGE, random).into_iter().map(drawable).collect();
     filters
         .iter()
         .flat_map(|filter| in_each_room(&write(filter), random))
@@ -96,7 +97,7 @@ pub fn not_drawn(random: &mut Random) -> Vec<Case> {
         for [start, labels] in [[true, false], [false, true], [true, true]] {
             let n = random.between(2, 12);
             let m = random.between(4, 63);
-            let mut filter = drawable(filter(random, n, m, e));
+            let mut filter = drawable(filter(LARGE, random, n, m, e));
             if start {
                 let any = random.between(1, n - 1);
                 filter.start = random.pick(&[1, n - 1, any]);
@@ -118,7 +119,7 @@ pub fn of_faulty_files(random: &mut Random) -> Vec<Case> {
     for number in 1..=9 {
         for start in [0, 1] {
             for room in [Room::Longer, Room::Empty] {
-                let mut draft = Draft::of(damageable(random));
+                let mut draft = Draft::of(LARGE, damageable(LARGE, random));
                 draft.filter.start = start;
                 draft.spoil(number, random);
                 cases.push(in_room(draft.bytes(), room, random));
@@ -141,11 +142,11 @@ pub fn of_all_files(random: &mut Random) -> Vec<Case> {
         files::noise_behind_header,
         files::headers_alone,
     ];
-    let mut files: Vec<Vec<u8>> = makes.iter().flat_map(|make| make(random)).collect();
-    for filter in shapes(random).into_iter().map(drawable) {
+    let mut files: Vec<Vec<u8>> = makes.iter().flat_map(|make| make(LARGE, random)).collect();
+    for filter in shapes(LARGE, random).into_iter().map(drawable) {
         let mut turned = write(&filter);
         let bit = random.between(0, 8 * turned.len() as u64 - 1) as usize;
-        turned[bit / 8] ^= 128 >> (bit % 8);
+        files::turn_bit(&mut turned, bit);
         files.push(turned);
     }
     in_any_rooms(files, random)
@@ -153,7 +154,7 @@ pub fn of_all_files(random: &mut Random) -> Vec<Case> {
 
 /// In each room and in the longest that a case can hold; and with a start that is another.
 pub fn largest_drawn(random: &mut Random) -> Vec<Case> {
-    let mut filter = drawable(largest(random));
+    let mut filter = drawable(largest(LARGE, random));
     let mut cases = in_each_room(&write(&filter), random);
     cases.push(Case::to_dot(write(&filter), random.bytes(LONGEST)));
     filter.start = random.between(1, 255);

@@ -1,112 +1,83 @@
 //! The families of files, for every call that takes one.
 
-use crate::bits::{bytes_of, push};
-use crate::file::{length, write};
+use crate::bits::{bytes_of, free_bits};
+use crate::file::{Filter, Header};
 use crate::make::damage::{
-    one_faulty_edge, several_faults_in_an_edge, two_faulty_edges, Damage, Damaged,
+    one_faulty_edge, several_faults_in_an_edge, two_faulty_edges, Damage, Damaged, Tops,
 };
 use crate::make::draft::Draft;
 use crate::make::filters::{damageable, filter, large, largest, shapes, small};
-use crate::make::Family;
+use crate::profile::Profile;
 use crate::random::Random;
 
-pub const FAMILIES: &[Family<Vec<u8>>] = &[
-    Family {
-        name: "accepted files",
-        times: 50,
-        make: accepted,
-    },
-    Family {
-        name: "accepted files with one bit turned",
-        times: 50,
-        make: one_bit_turned,
-    },
-    Family {
-        name: "each length and content of the filling",
-        times: 10,
-        make: fillings,
-    },
-    Family {
-        name: "files cut or extended",
-        times: 50,
-        make: cut_or_extended,
-    },
-    Family {
-        name: "one fault of each number",
-        times: 20,
-        make: one_fault,
-    },
-    Family {
-        name: "two faults in one file",
-        times: 20,
-        make: two_faults,
-    },
-    Family {
-        name: "one faulty edge",
-        times: 30,
-        make: faulty_edge,
-    },
-    Family {
-        name: "several faults in one edge",
-        times: 8,
-        make: faults_in_one_edge,
-    },
-    Family {
-        name: "two faulty edges",
-        times: 10,
-        make: faulty_edges,
-    },
-    Family {
-        name: "noise",
-        times: 6,
-        make: noise,
-    },
-    Family {
-        name: "noise behind a header that fits",
-        times: 100,
-        make: noise_behind_header,
-    },
-    Family {
-        name: "headers alone",
-        times: 40,
-        make: headers_alone,
-    },
-    Family {
-        name: "the largest file and its neighbours",
-        times: 1,
-        make: largest_and_neighbours,
-    },
-    Family {
-        name: "large files",
-        times: 1,
-        make: large_files,
-    },
-];
-
-pub fn accepted(random: &mut Random) -> Vec<Vec<u8>> {
-    shapes(random).iter().map(write).collect()
+of_each_profile! { Vec<u8>, once in 2:
+    "accepted files" => 50 * accepted,
+    "accepted files with one bit turned" => 50 * one_bit_turned,
+    "every bit of a file turned" => 2 * every_bit_turned,
+    "each length and content of the filling" => 10 * fillings,
+    "files cut or extended" => 50 * cut_or_extended,
+    "one fault of each number" => 20 * one_fault,
+    "two faults in one file" => 20 * two_faults,
+    "one faulty edge" => 30 * faulty_edge,
+    "several faults in one edge" => 8 * faults_in_one_edge,
+    "two faulty edges" => 10 * faulty_edges,
+    "noise" => 6 * noise,
+    "noise behind a header that fits" => 100 * noise_behind_header,
+    "headers alone" => 40 * headers_alone,
+    "the largest file and its neighbours" => 1 * largest_and_neighbours,
+    "large files" => 1 * large_files,
 }
 
-pub fn one_bit_turned(random: &mut Random) -> Vec<Vec<u8>> {
-    let mut files = accepted(random);
+fn all_written(profile: Profile, filters: &[Filter]) -> Vec<Vec<u8>> {
+    let write = |filter| profile.write(filter);
+    filters.iter().map(write).collect()
+}
+
+pub fn accepted(profile: Profile, random: &mut Random) -> Vec<Vec<u8>> {
+    all_written(profile, &shapes(profile, random))
+}
+
+pub fn turn_bit(file: &mut [u8], bit: usize) {
+    file[bit / 8] ^= 128 >> (bit % 8);
+}
+
+pub fn one_bit_turned(profile: Profile, random: &mut Random) -> Vec<Vec<u8>> {
+    let mut files = accepted(profile, random);
     for file in &mut files {
         let bit = random.between(0, 8 * file.len() as u64 - 1) as usize;
-        file[bit / 8] ^= 128 >> (bit % 8);
+        turn_bit(file, bit);
     }
     files
 }
 
-/// 37 + 6n + 22e is odd, so there are 1, 3, 5 or 7 filling bits, as n + e goes up by one. Each with 0, with each single
-/// bit, with all bits and with some.
-pub fn fillings(random: &mut Random) -> Vec<Vec<u8>> {
+/// Of one small file.
+pub fn every_bit_turned(profile: Profile, random: &mut Random) -> Vec<Vec<u8>> {
+    let file = profile.write(&small(profile, random));
+    let turned = |bit| {
+        let mut turned = file.clone();
+        turn_bit(&mut turned, bit);
+        turned
+    };
+    (0..8 * file.len()).map(turned).collect()
+}
+
+/// Each number of filling bits that there can be, with 0, with each single bit, with all bits and with some. 37 + 6n + 22e is
+/// odd, so a large file has 1, 3, 5 or 7; a pocket file has any number, none included.
+pub fn fillings(profile: Profile, random: &mut Random) -> Vec<Vec<u8>> {
     let mut files = Vec::new();
-    let n = random.between(1, 6);
-    for states in n..n + 4 {
-        let e = random.between(0, 1) * 4;
-        let mut draft = Draft::of(filter(random, states, 5, e));
-        let all = (1 << draft.free()) - 1;
-        let mut contents = vec![0, all, random.between(1, all)];
-        contents.extend((0..draft.free()).map(|bit| 1 << bit));
+    for free in 0..8 {
+        let sizes: Vec<(u64, u64)> = (1..=6)
+            .flat_map(|n| (0..=4).map(move |e| (n, e)))
+            .filter(|&(n, e)| free_bits(profile.bits(n, e) as usize) == free)
+            .collect();
+        if sizes.is_empty() {
+            continue;
+        }
+        let (n, e) = random.pick(&sizes);
+        let mut draft = Draft::of(profile, filter(profile, random, n, 5, e));
+        let all = (1 << free) - 1;
+        let mut contents = vec![0, all, random.between(all.min(1), all)];
+        contents.extend((0..free).map(|bit| 1 << bit));
         for content in contents {
             draft.filling = content;
             files.push(draft.bytes());
@@ -115,10 +86,9 @@ pub fn fillings(random: &mut Random) -> Vec<Vec<u8>> {
     files
 }
 
-pub fn cut_or_extended(random: &mut Random) -> Vec<Vec<u8>> {
-    let mut files = Vec::new();
-    for filter in shapes(random) {
-        let mut file = write(&filter);
+pub fn cut_or_extended(profile: Profile, random: &mut Random) -> Vec<Vec<u8>> {
+    let mut files = accepted(profile, random);
+    for file in &mut files {
         let have = file.len();
         match random.between(0, 5) {
             0 => file.truncate(have - 1),
@@ -131,18 +101,22 @@ pub fn cut_or_extended(random: &mut Random) -> Vec<Vec<u8>> {
                 file.extend(random.bytes(more));
             }
         }
-        files.push(file);
     }
     files
 }
 
-pub fn one_fault(random: &mut Random) -> Vec<Vec<u8>> {
+/// With the faults of these numbers, in the order in which `Draft::spoil` wants them.
+fn spoilt(profile: Profile, numbers: &[u8], random: &mut Random) -> Vec<u8> {
+    let mut draft = Draft::of(profile, damageable(profile, random));
+    for &number in numbers {
+        draft.spoil(number, random);
+    }
+    draft.bytes()
+}
+
+pub fn one_fault(profile: Profile, random: &mut Random) -> Vec<Vec<u8>> {
     (1..=9)
-        .map(|number| {
-            let mut draft = Draft::of(damageable(random));
-            draft.spoil(number, random);
-            draft.bytes()
-        })
+        .map(|number| spoilt(profile, &[number], random))
         .collect()
 }
 
@@ -175,36 +149,35 @@ pub const PAIRS: &[(u8, u8)] = &[
 ];
 
 /// One file for each of `PAIRS`.
-pub fn two_faults(random: &mut Random) -> Vec<Vec<u8>> {
+pub fn two_faults(profile: Profile, random: &mut Random) -> Vec<Vec<u8>> {
     PAIRS
         .iter()
-        .map(|&(first, second)| {
-            let mut draft = Draft::of(damageable(random));
-            draft.spoil(first, random);
-            draft.spoil(second, random);
-            draft.bytes()
-        })
+        .map(|&(first, second)| spoilt(profile, &[first, second], random))
         .collect()
 }
 
-pub fn faulty_edge(random: &mut Random) -> Vec<Vec<u8>> {
-    one_faulty_edge(63, random).iter().map(write).collect()
+pub fn faulty_edge(profile: Profile, random: &mut Random) -> Vec<Vec<u8>> {
+    let filters = one_faulty_edge(profile, Tops::of_files(profile), random);
+    all_written(profile, &filters)
 }
 
-pub fn faults_in_one_edge(random: &mut Random) -> Vec<Vec<u8>> {
-    written(&several_faults_in_an_edge(63, random))
+pub fn faults_in_one_edge(profile: Profile, random: &mut Random) -> Vec<Vec<u8>> {
+    let all = several_faults_in_an_edge(profile, Tops::of_files(profile), random);
+    damaged_written(profile, &all)
 }
 
-pub fn faulty_edges(random: &mut Random) -> Vec<Vec<u8>> {
-    written(&two_faulty_edges(63, random))
+pub fn faulty_edges(profile: Profile, random: &mut Random) -> Vec<Vec<u8>> {
+    let all = two_faulty_edges(profile, Tops::of_files(profile), random);
+    damaged_written(profile, &all)
 }
 
-fn written(all: &[Damaged]) -> Vec<Vec<u8>> {
-    all.iter().map(|damaged| write(&damaged.filter)).collect()
+fn damaged_written(profile: Profile, all: &[Damaged]) -> Vec<Vec<u8>> {
+    let write = |damaged: &Damaged| profile.write(&damaged.filter);
+    all.iter().map(write).collect()
 }
 
 /// Every length up to 64, and some longer.
-pub fn noise(random: &mut Random) -> Vec<Vec<u8>> {
+pub fn noise(_: Profile, random: &mut Random) -> Vec<Vec<u8>> {
     let mut files: Vec<Vec<u8>> = (0..=64).map(|length| random.bytes(length)).collect();
     for _ in 0..4 {
         let length = random.between(65, 600) as usize;
@@ -213,61 +186,67 @@ pub fn noise(random: &mut Random) -> Vec<Vec<u8>> {
     files
 }
 
+/// The bits that follow a header in its last byte, which belong to the first colour, become any.
+fn fill_header_up(profile: Profile, header: &mut [u8], random: &mut Random) {
+    let others = free_bits(profile.header_bits());
+    let last = profile.header_bytes() - 1;
+    header[last] |= random.between(0, (1 << others) - 1) as u8;
+}
+
 /// The right length, so that only filling and edges are left to be wrong.
-pub fn noise_behind_header(random: &mut Random) -> Vec<Vec<u8>> {
+pub fn noise_behind_header(profile: Profile, random: &mut Random) -> Vec<Vec<u8>> {
+    let (most, labels) = (profile.most_states(), profile.most_labels());
     let (n, m) = if random.once_in(2) {
-        (256, 64)
+        (most, labels)
     } else {
-        (random.between(1, 30), random.between(1, 64))
+        (random.between(1, most.min(30)), random.between(1, labels))
     };
     let e = random.between(0, (n * m).min(6));
     let start = random.between(0, n - 1);
-    let mut file = header(n, m, start, e);
-    let more = length(n, e) as usize - file.len();
-    // The header's last three bits belong to the first colour.
-    let last = file.len() - 1;
-    file[last] |= random.between(0, 7) as u8;
+    let mut file = header(profile, n, m, start, e);
+    let more = profile.length(n, e) as usize - file.len();
+    fill_header_up(profile, &mut file, random);
     file.extend(random.bytes(more));
     vec![file]
 }
 
-/// Five to eight bytes, of which the fifth ends with bits that are not the header's.
-pub fn headers_alone(random: &mut Random) -> Vec<Vec<u8>> {
-    let n = random.between(1, 256);
-    let m = random.between(1, 64);
+/// With no byte behind them, or up to three.
+pub fn headers_alone(profile: Profile, random: &mut Random) -> Vec<Vec<u8>> {
+    let (most, labels) = (profile.most_states(), profile.most_labels());
+    let full = profile.most_edges();
+    let top = profile.top_count();
+    let n = random.between(1, most);
+    let m = random.between(1, labels);
     let inside = random.between(0, n - 1);
-    let any = random.between(0, 255);
+    let any = random.between(0, most - 1);
     let mut files = vec![
-        header(n, m, inside, 0),
-        header(n, m, inside, random.between(0, n * m)),
-        header(n, m, inside, n * m),
-        header(n, m, inside, n * m + 1),
-        header(n, m, inside, 32_767),
-        header(n, m, n.min(255), 0),
-        header(n, m, any, random.between(0, 32_767)),
-        header(1, 1, 0, random.between(0, 3)),
-        header(256, 64, any, 16_384),
-        header(256, 64, any, 16_385),
+        header(profile, n, m, inside, 0),
+        header(profile, n, m, inside, random.between(0, n * m)),
+        header(profile, n, m, inside, n * m),
+        header(profile, n, m, inside, n * m + 1),
+        header(profile, n, m, inside, top),
+        header(profile, n, m, n.min(most - 1), 0),
+        header(profile, n, m, any, random.between(0, top)),
+        header(profile, 1, 1, 0, random.between(0, 3)),
+        header(profile, most, labels, any, full),
+        header(profile, most, labels, any, full + 1),
     ];
     for file in &mut files {
-        file[4] |= random.between(0, 7) as u8;
+        fill_header_up(profile, file, random);
         let more = random.between(0, 3) as usize;
         file.extend(random.bytes(more));
     }
     files
 }
 
-fn header(n: u64, m: u64, start: u64, e: u64) -> Vec<u8> {
+fn header(profile: Profile, n: u64, m: u64, start: u64, e: u64) -> Vec<u8> {
     let mut row = Vec::new();
-    push(&mut row, n - 1, 8);
-    push(&mut row, m - 1, 6);
-    push(&mut row, start, 8);
-    push(&mut row, e, 15);
+    profile.push_header(&mut row, Header { n, m, start, e });
     bytes_of(&row)
 }
 
-pub fn largest_and_neighbours(random: &mut Random) -> Vec<Vec<u8>> {
-    let exact = write(&largest(random));
+pub fn largest_and_neighbours(profile: Profile, random: &mut Random) -> Vec<Vec<u8>> {
+    let exact = profile.write(&largest(profile, random));
     let mut longer = exact.clone();
     longer.push(random.between(0, 255) as u8);
     let mut shorter = exact.clone();
@@ -276,29 +255,34 @@ pub fn largest_and_neighbours(random: &mut Random) -> Vec<Vec<u8>> {
 }
 
 /// Accepted ones, one with a bit turned, and faults far behind the beginning.
-pub fn large_files(random: &mut Random) -> Vec<Vec<u8>> {
-    let mut files = vec![write(&large(random)), write(&large(random))];
-    let mut turned = write(&large(random));
-    let bit = random.between(37, 8 * turned.len() as u64 - 1) as usize;
-    turned[bit / 8] ^= 128 >> (bit % 8);
-    files.push(turned);
+pub fn large_files(profile: Profile, random: &mut Random) -> Vec<Vec<u8>> {
+    let any = [(); 3].map(|()| large(profile, random));
+    let mut files = all_written(profile, &any);
+    let behind_the_header = profile.header_bits() as u64;
+    let turned = &mut files[2];
+    let bit = random.between(behind_the_header, 8 * turned.len() as u64 - 1) as usize;
+    turn_bit(turned, bit);
+    let tops = Tops::of_files(profile);
+    let mut damaged = Vec::new();
     for damage in [
         Damage::Before,
         Damage::EqualSameTarget,
         Damage::EqualOtherTarget,
     ] {
-        let mut filter = largest(random);
+        let mut filter = largest(profile, random);
         let at = random.pick(&[filter.edges.len() / 2, filter.edges.len() - 1]);
-        damage.apply(&mut filter, at, 63, random);
-        files.push(write(&filter));
+        damage.apply(&mut filter, at, tops, random);
+        damaged.push(filter);
     }
-    // 255 states and 63 labels, for with 256 and 64 every byte and label is inside.
+    // One state and one label less than there can be, or every number that the fields can say would be inside.
     let damage = random.pick(&[Damage::Source, Damage::Label, Damage::Target]);
-    let mut filter = filter(random, 255, 63, 255 * 63);
+    let (n, m) = (profile.most_states() - 1, profile.most_labels() - 1);
+    let mut filter = filter(profile, random, n, m, n * m);
     let at = random.pick(&damage.places(&filter));
-    damage.apply(&mut filter, at, 63, random);
-    files.push(write(&filter));
-    let mut draft = Draft::of(small(random));
+    damage.apply(&mut filter, at, tops, random);
+    damaged.push(filter);
+    files.extend(all_written(profile, &damaged));
+    let mut draft = Draft::of(profile, small(profile, random));
     draft.extra = random.bytes(60_000);
     files.push(draft.bytes());
     files

@@ -1,12 +1,14 @@
-//! Random filters that a file may hold.
+//! Random filters that a file of a profile may hold.
 
+use crate::bits::free_bits;
 use crate::file::{Edge, Filter};
+use crate::profile::Profile;
 use crate::random::Random;
 use std::collections::BTreeMap;
 
 /// A filter of exactly these sizes.
-pub fn filter(random: &mut Random, n: u64, m: u64, e: u64) -> Filter {
-    let colours = (0..n).map(|_| random.between(0, 63)).collect();
+pub fn filter(profile: Profile, random: &mut Random, n: u64, m: u64, e: u64) -> Filter {
+    let colours = any_colours(profile, random, n);
     let mut edges = Vec::new();
     // Walks over all pairs in order and takes each with the chance that leaves e of them in the end.
     let mut wanted = e;
@@ -28,10 +30,22 @@ pub fn filter(random: &mut Random, n: u64, m: u64, e: u64) -> Filter {
     }
 }
 
+pub fn any_colours(profile: Profile, random: &mut Random, n: u64) -> Vec<u64> {
+    let colour = |_| random.between(0, profile.top_colour());
+    (0..n).map(colour).collect()
+}
+
 /// A filter of n states and m labels whose start, the first of `live`, leads to all of them and to no other state. Of the
 /// pairs of state and label that this does not take, one in `often` has an edge, which leads anywhere from a state that is
 /// not live.
-pub fn led(random: &mut Random, n: u64, m: u64, live: &[u64], often: u64) -> Filter {
+pub fn led(
+    profile: Profile,
+    random: &mut Random,
+    n: u64,
+    m: u64,
+    live: &[u64],
+    often: u64,
+) -> Filter {
     let mut targets = BTreeMap::new();
     for (i, &state) in live.iter().enumerate().skip(1) {
         // Those before it have a label left: there is one pair at least for each of them, and one less is taken.
@@ -53,7 +67,7 @@ pub fn led(random: &mut Random, n: u64, m: u64, live: &[u64], often: u64) -> Fil
         }
     }
     Filter {
-        colours: (0..n).map(|_| random.between(0, 63)).collect(),
+        colours: any_colours(profile, random, n),
         m,
         start: live[0],
         edges: targets
@@ -67,69 +81,98 @@ pub fn led(random: &mut Random, n: u64, m: u64, live: &[u64], often: u64) -> Fil
     }
 }
 
-/// The largest file's sizes.
-pub fn largest(random: &mut Random) -> Filter {
-    filter(random, 256, 64, 16_384)
+/// The largest file's sizes, and its highest colour somewhere.
+pub fn largest(profile: Profile, random: &mut Random) -> Filter {
+    let n = profile.most_states();
+    let mut largest = filter(
+        profile,
+        random,
+        n,
+        profile.most_labels(),
+        profile.most_edges(),
+    );
+    let at = random.between(0, n - 1) as usize;
+    largest.colours[at] = profile.top_colour();
+    largest
 }
 
-/// Any sizes, so most likely some ten thousand bytes.
-pub fn large(random: &mut Random) -> Filter {
-    let n = random.between(1, 256);
-    let m = random.between(1, 64);
+/// Any sizes, so most likely some ten thousand bytes, or some fifty of a pocket file.
+pub fn large(profile: Profile, random: &mut Random) -> Filter {
+    let n = random.between(1, profile.most_states());
+    let m = random.between(1, profile.most_labels());
     let e = random.between(0, n * m);
-    filter(random, n, m, e)
+    filter(profile, random, n, m, e)
 }
 
 /// A few states, labels and edges.
-pub fn small(random: &mut Random) -> Filter {
+pub fn small(profile: Profile, random: &mut Random) -> Filter {
     let n = random.between(1, 6);
     let m = random.between(1, 5);
     let e = random.between(0, n * m);
-    filter(random, n, m, e)
+    filter(profile, random, n, m, e)
+}
+
+/// Almost as many states as there can be, or as many.
+pub fn many_states(profile: Profile, random: &mut Random) -> u64 {
+    let most = profile.most_states();
+    random.between(most - most / 4, most)
+}
+
+/// The same of labels.
+pub fn many_labels(profile: Profile, random: &mut Random) -> u64 {
+    let most = profile.most_labels();
+    random.between(most - most / 8, most)
 }
 
 /// One of each shape, most of them small.
-pub fn shapes(random: &mut Random) -> Vec<Filter> {
+pub fn shapes(profile: Profile, random: &mut Random) -> Vec<Filter> {
+    let (most, labels) = (profile.most_states(), profile.most_labels());
     let n = random.between(1, 8);
     let m = random.between(1, 8);
-    let many = random.between(1, 64);
+    let some_labels = random.between(1, labels);
+    let some_states = random.between(1, most.min(64));
     let mut sizes = vec![
         (1, 1, 0),
         (1, 1, 1),
         (n, m, 0),
         (n, m, n * m),
-        (1, many, random.between(0, many)),
-        (many, 1, random.between(0, many)),
-        (1, 64, 64),
-        (2, 64, random.between(0, 128)),
-        (256, 1, random.between(0, 40)),
+        (1, some_labels, random.between(0, some_labels)),
+        (some_states, 1, random.between(0, some_states)),
+        (1, labels, labels),
+        (2, labels, random.between(0, 2 * labels)),
+        (most, 1, random.between(0, most.min(40))),
     ];
     if random.once_in(4) {
-        sizes.push((256, 1, 256));
-        sizes.push((256, 64, random.between(0, 100)));
-        sizes.push((256, 64, 0));
-        sizes.push((random.between(200, 256), m, random.between(0, 200)));
+        let many = many_states(profile, random);
+        sizes.push((most, 1, most));
+        sizes.push((most, labels, random.between(0, 100)));
+        sizes.push((most, labels, 0));
+        sizes.push((many, m, random.between(0, 200.min(many * m))));
     }
-    let mut filters: Vec<Filter> = (0..6).map(|_| small(random)).collect();
+    let mut filters: Vec<Filter> = (0..6).map(|_| small(profile, random)).collect();
     for (n, m, e) in sizes {
-        filters.push(filter(random, n, m, e));
+        filters.push(filter(profile, random, n, m, e));
     }
     filters
 }
 
-/// One that can take every damage: a source, label and target outside exist, and there are a first, a middle and a
-/// last edge with another before each of the latter two.
-pub fn damageable(random: &mut Random) -> Filter {
-    let n = if random.once_in(8) {
-        random.between(200, 255)
-    } else {
-        random.between(2, 10)
-    };
-    let m = if random.once_in(8) {
-        random.between(57, 63)
-    } else {
-        random.between(2, 6)
-    };
-    let e = random.between(4, (n * m).min(20));
-    filter(random, n, m, e)
+/// One that can take every damage: a source, label and target outside exist, there are a first, a middle and a last edge with
+/// another before each of the latter two, and the file has filling bits.
+pub fn damageable(profile: Profile, random: &mut Random) -> Filter {
+    loop {
+        let n = if random.once_in(8) {
+            many_states(profile, random) - 1
+        } else {
+            random.between(2, 10)
+        };
+        let m = if random.once_in(8) {
+            many_labels(profile, random) - 1
+        } else {
+            random.between(2, 6)
+        };
+        let e = random.between(4, (n * m).min(20));
+        if free_bits(profile.bits(n, e) as usize) > 0 {
+            return filter(profile, random, n, m, e);
+        }
+    }
 }

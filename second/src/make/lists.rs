@@ -1,72 +1,34 @@
 //! The families of lists, for pack.
 
 use crate::case::Case;
-use crate::file::{length, Filter};
+use crate::file::Filter;
 use crate::frame::LONGEST;
 use crate::make::damage::{
-    damage_one, one_faulty_edge, several_faults_in_an_edge, two_faulty_edges, Damage, Damaged,
+    damage_one, one_faulty_edge, outside, several_faults_in_an_edge, two_faulty_edges, Damage,
+    Damaged, Tops,
 };
 use crate::make::filters::{damageable, filter, large, largest, shapes, small};
 use crate::make::rooms::{any, Room};
-use crate::make::Family;
+use crate::profile::Profile;
 use crate::random::Random;
 
-pub const FAMILIES: &[Family<Case>] = &[
-    Family {
-        name: "accepted lists",
-        times: 30,
-        make: accepted,
-    },
-    Family {
-        name: "lists and numbers outside the form",
-        times: 20,
-        make: outside_the_form,
-    },
-    Family {
-        name: "start outside",
-        times: 20,
-        make: start_outside,
-    },
-    Family {
-        name: "one edge too many",
-        times: 20,
-        make: one_edge_too_many,
-    },
-    Family {
-        name: "lists with one faulty edge",
-        times: 20,
-        make: faulty_edge,
-    },
-    Family {
-        name: "lists with several faults in one edge",
-        times: 4,
-        make: faults_in_one_edge,
-    },
-    Family {
-        name: "lists with two faulty edges",
-        times: 10,
-        make: faulty_edges,
-    },
-    Family {
-        name: "two faults in the lists",
-        times: 30,
-        make: two_faults,
-    },
-    Family {
-        name: "random lists",
-        times: 300,
-        make: random_lists,
-    },
-    Family {
-        name: "large lists",
-        times: 1,
-        make: large_lists,
-    },
-];
+of_each_profile! { Case, once in 2:
+    "accepted lists" => 30 * accepted,
+    "lists and numbers outside the form" => 20 * outside_the_form,
+    "start outside" => 20 * start_outside,
+    "one edge too many" => 20 * one_edge_too_many,
+    "lists with one faulty edge" => 20 * faulty_edge,
+    "lists with several faults in one edge" => 4 * faults_in_one_edge,
+    "lists with two faulty edges" => 10 * faulty_edges,
+    "two faults in the lists" => 30 * two_faults,
+    "random lists" => 300 * random_lists,
+    "large lists" => 1 * large_lists,
+}
 
 /// What pack takes, before a room is lent to it.
 #[derive(Clone)]
 struct Lists {
+    profile: Profile,
     colours: Vec<u8>,
     edges: Vec<u8>,
     m: u64,
@@ -74,12 +36,13 @@ struct Lists {
 }
 
 impl Lists {
-    fn of(filter: &Filter) -> Lists {
+    fn of(profile: Profile, filter: &Filter) -> Lists {
         let mut edges = Vec::new();
         for edge in &filter.edges {
             edges.extend([edge.source as u8, edge.label as u8, edge.target as u8]);
         }
         Lists {
+            profile,
             colours: filter.colours.iter().map(|&colour| colour as u8).collect(),
             edges,
             m: filter.m,
@@ -88,9 +51,16 @@ impl Lists {
     }
 
     fn with_room(self, room: Room, random: &mut Random) -> Case {
-        let wanted = length(self.colours.len() as u64, self.edges.len() as u64 / 3) as usize;
-        let found = room.found(wanted, random);
-        Case::pack(self.colours, self.edges, self.m, self.start, found)
+        let (n, e) = (self.colours.len() as u64, self.edges.len() as u64 / 3);
+        let found = room.found(self.profile.length(n, e) as usize, random);
+        Case::pack(
+            self.profile,
+            self.colours,
+            self.edges,
+            self.m,
+            self.start,
+            found,
+        )
     }
 
     fn with_any_room(self, random: &mut Random) -> Case {
@@ -110,54 +80,63 @@ impl Lists {
 
     fn high_colour(&mut self, random: &mut Random) {
         let at = random.between(0, self.colours.len() as u64 - 1) as usize;
-        let any = random.between(64, 255) as u8;
-        self.colours[at] = random.pick(&[64, 255, any]);
+        self.colours[at] = outside(random, self.profile.top_colour() + 1, 255) as u8;
     }
 }
 
 /// Each shape in each room.
-pub fn accepted(random: &mut Random) -> Vec<Case> {
+pub fn accepted(profile: Profile, random: &mut Random) -> Vec<Case> {
     let mut cases = Vec::new();
-    for filter in shapes(random) {
+    for filter in shapes(profile, random) {
         for room in Room::ALL {
-            cases.push(Lists::of(&filter).with_room(room, random));
+            cases.push(Lists::of(profile, &filter).with_room(room, random));
         }
     }
     cases
 }
 
 /// No m, though some would be one once they are cut down to fewer bits.
-const NOT_M: [u64; 11] = [
-    0,
-    65,
-    128,
-    255,
-    (1 << 8) + 2,
-    (1 << 16) + 2,
-    1 << 32,
-    (1 << 32) + 2,
-    1 << 63,
-    (1 << 63) + 2,
-    u64::MAX,
-];
+fn not_m(profile: Profile) -> [u64; 11] {
+    let most = profile.most_labels();
+    [
+        0,
+        most + 1,
+        2 * most,
+        255,
+        (1 << 8) + 2,
+        (1 << 16) + 2,
+        1 << 32,
+        (1 << 32) + 2,
+        1 << 63,
+        (1 << 63) + 2,
+        u64::MAX,
+    ]
+}
 
-pub fn outside_the_form(random: &mut Random) -> Vec<Case> {
-    let base = Lists::of(&damageable(random));
+pub fn outside_the_form(profile: Profile, random: &mut Random) -> Vec<Case> {
+    let base = Lists::of(profile, &damageable(profile, random));
+    let (most, top) = (profile.most_states(), profile.top_colour());
     let mut all = Vec::new();
-    for count in [0, 257, 258, random.between(257, 600)] {
+    for count in [
+        0,
+        most + 1,
+        most + 2,
+        256.max(most + 1),
+        random.between(most + 1, 600),
+    ] {
         let mut lists = base.clone();
-        lists.colours = vec![random.between(0, 63) as u8; count as usize];
+        lists.colours = vec![random.between(0, top) as u8; count as usize];
         all.push(lists);
     }
-    for m in NOT_M {
+    for m in not_m(profile) {
         let mut lists = base.clone();
         lists.m = m;
         all.push(lists);
     }
-    for colour in [64, 65, 128, 255] {
+    for colour in [top + 1, top + 2, 64, 128, 255] {
         for at in [0, base.colours.len() / 2, base.colours.len() - 1] {
             let mut lists = base.clone();
-            lists.colours[at] = colour;
+            lists.colours[at] = colour as u8;
             all.push(lists);
         }
     }
@@ -175,40 +154,43 @@ pub fn outside_the_form(random: &mut Random) -> Vec<Case> {
 }
 
 /// Starts of which some are right once they are cut down to fewer bits.
-pub fn start_outside(random: &mut Random) -> Vec<Case> {
+pub fn start_outside(profile: Profile, random: &mut Random) -> Vec<Case> {
     let mut all = Vec::new();
-    let n = random.between(1, 256);
-    for states in [1, n, 255, 256] {
+    let most = profile.most_states();
+    let n = random.between(1, most);
+    for states in [1, n, most - 1, most] {
         let e = random.between(0, 5);
         for start in [
             states,
             states + 1,
-            255.max(states),
+            states.max(most - 1),
+            most,
             256,
+            256 + states - 1,
             1 << 16,
             1 << 32,
             (1 << 32) + states - 1,
             1 << 63,
             u64::MAX,
         ] {
-            let mut lists = Lists::of(&filter(random, states, 5, e));
+            let mut lists = Lists::of(profile, &filter(profile, random, states, 5, e));
             lists.start = start;
             all.push(lists.with_any_room(random));
         }
         // The highest that is still inside.
-        let mut lists = Lists::of(&filter(random, states, 5, e));
+        let mut lists = Lists::of(profile, &filter(profile, random, states, 5, e));
         lists.start = states - 1;
         all.push(lists.with_any_room(random));
     }
     all
 }
 
-pub fn one_edge_too_many(random: &mut Random) -> Vec<Case> {
+pub fn one_edge_too_many(profile: Profile, random: &mut Random) -> Vec<Case> {
     let mut all = Vec::new();
-    for base in shapes(random) {
+    for base in shapes(profile, random) {
         let full = base.n() * base.m;
         if full <= 300 {
-            let mut lists = Lists::of(&base);
+            let mut lists = Lists::of(profile, &base);
             lists.fill_up(full + 1, random);
             all.push(lists.with_any_room(random));
         }
@@ -216,32 +198,35 @@ pub fn one_edge_too_many(random: &mut Random) -> Vec<Case> {
     all
 }
 
-pub fn faulty_edge(random: &mut Random) -> Vec<Case> {
-    let mut filters = one_faulty_edge(255, random);
-    // A label of 64 or more, which a file could not even hold.
-    let mut full = filter(random, 2, 64, 128);
-    Damage::Label.apply(&mut full, 63, 255, random);
+pub fn faulty_edge(profile: Profile, random: &mut Random) -> Vec<Case> {
+    let mut filters = one_faulty_edge(profile, Tops::OF_LISTS, random);
+    // A label that a file could not even hold.
+    let most = profile.most_labels();
+    let mut full = filter(profile, random, 2, most, 2 * most);
+    Damage::Label.apply(&mut full, most as usize - 1, Tops::OF_LISTS, random);
     filters.push(full);
-    in_any_rooms(&filters, random)
+    in_any_rooms(profile, &filters, random)
 }
 
-pub fn faults_in_one_edge(random: &mut Random) -> Vec<Case> {
-    damaged_in_any_rooms(several_faults_in_an_edge(255, random), random)
+pub fn faults_in_one_edge(profile: Profile, random: &mut Random) -> Vec<Case> {
+    let all = several_faults_in_an_edge(profile, Tops::OF_LISTS, random);
+    damaged_in_any_rooms(profile, all, random)
 }
 
-pub fn faulty_edges(random: &mut Random) -> Vec<Case> {
-    damaged_in_any_rooms(two_faulty_edges(255, random), random)
+pub fn faulty_edges(profile: Profile, random: &mut Random) -> Vec<Case> {
+    let all = two_faulty_edges(profile, Tops::OF_LISTS, random);
+    damaged_in_any_rooms(profile, all, random)
 }
 
-fn damaged_in_any_rooms(all: Vec<Damaged>, random: &mut Random) -> Vec<Case> {
+fn damaged_in_any_rooms(profile: Profile, all: Vec<Damaged>, random: &mut Random) -> Vec<Case> {
     let filters: Vec<Filter> = all.into_iter().map(|damaged| damaged.filter).collect();
-    in_any_rooms(&filters, random)
+    in_any_rooms(profile, &filters, random)
 }
 
-fn in_any_rooms(filters: &[Filter], random: &mut Random) -> Vec<Case> {
+fn in_any_rooms(profile: Profile, filters: &[Filter], random: &mut Random) -> Vec<Case> {
     filters
         .iter()
-        .map(|filter| Lists::of(filter).with_any_room(random))
+        .map(|filter| Lists::of(profile, filter).with_any_room(random))
         .collect()
 }
 
@@ -268,19 +253,20 @@ pub const PAIRS: &[(u8, u8)] = &[
 ];
 
 /// One case for each of `PAIRS`.
-pub fn two_faults(random: &mut Random) -> Vec<Case> {
-    PAIRS.iter().map(|&pair| two_of(pair, random)).collect()
+pub fn two_faults(profile: Profile, random: &mut Random) -> Vec<Case> {
+    let two = |&pair| two_of(profile, pair, random);
+    PAIRS.iter().map(two).collect()
 }
 
-fn two_of(pair: (u8, u8), random: &mut Random) -> Case {
+fn two_of(profile: Profile, pair: (u8, u8), random: &mut Random) -> Case {
     let has = |number| pair.0 == number || pair.1 == number;
-    let mut filter = damageable(random);
+    let mut filter = damageable(profile, random);
     for number in 7..=9 {
         if has(number) {
-            damage_one(&mut filter, number, 255, random);
+            damage_one(&mut filter, number, Tops::OF_LISTS, random);
         }
     }
-    let mut lists = Lists::of(&filter);
+    let mut lists = Lists::of(profile, &filter);
     if has(3) {
         let too_many = filter.n() * filter.m + random.between(1, 3);
         lists.fill_up(too_many, random);
@@ -302,14 +288,16 @@ fn two_of(pair: (u8, u8), random: &mut Random) -> Case {
 }
 
 /// Mostly of a form that leaves the edges to decide.
-pub fn random_lists(random: &mut Random) -> Vec<Case> {
+pub fn random_lists(profile: Profile, random: &mut Random) -> Vec<Case> {
     let n = random.between(0, 8);
-    let colour_top = random.pick(&[3, 63, 63, 70]);
+    let top = profile.top_colour();
+    let colour_top = random.pick(&[3, top, top, top + 7]);
     let edge_bytes = 3 * random.between(0, 4) + random.pick(&[0, 0, 0, 1]);
     let edge_top = random.pick(&[1, 3, 8, 255]);
     let few_labels = random.between(1, 8);
-    let labels = random.between(0, 70);
+    let labels = random.between(0, profile.most_labels() + 6);
     let lists = Lists {
+        profile,
         colours: bytes_up_to(colour_top, n, random),
         edges: bytes_up_to(edge_top, edge_bytes, random),
         m: random.pick(&[few_labels, few_labels, labels]),
@@ -323,27 +311,30 @@ fn bytes_up_to(top: u64, count: u64, random: &mut Random) -> Vec<u8> {
 }
 
 /// The largest file's lists in each room, and lists that are too long by one edge and by far.
-pub fn large_lists(random: &mut Random) -> Vec<Case> {
+pub fn large_lists(profile: Profile, random: &mut Random) -> Vec<Case> {
+    let full = Lists::of(profile, &largest(profile, random));
+    let few = Lists::of(profile, &small(profile, random));
     let mut cases = Vec::new();
     for room in Room::ALL {
-        cases.push(Lists::of(&largest(random)).with_room(room, random));
+        cases.push(full.clone().with_room(room, random));
     }
-    let any = Lists::of(&large(random));
+    let any = Lists::of(profile, &large(profile, random));
     cases.push(any.with_any_room(random));
-    // 16,384 is the most that fits, 32,767 the most that the header can say, 133,333 the most that a case can hold.
-    for e in [16_385, 32_767, 32_768, 32_769, 133_333] {
-        let mut lists = Lists::of(&largest(random));
+    // One more than fits; around the most that the header can say; the most that a case can hold.
+    let said = profile.top_count();
+    for e in [profile.most_edges() + 1, said, said + 1, said + 2, 133_333] {
+        let mut lists = full.clone();
         lists.fill_up(e, random);
         cases.push(lists.with_any_room(random));
     }
-    let mut lists = Lists::of(&small(random));
-    lists.fill_up(32_768, random);
+    let mut lists = few.clone();
+    lists.fill_up(said + 1, random);
     cases.push(lists.with_any_room(random));
-    let mut lists = Lists::of(&small(random));
+    let mut lists = few;
     lists.colours = vec![0; random.pick(&[65_536, 65_537, 131_072, LONGEST])];
     cases.push(lists.with_room(Room::Empty, random));
-    let mut lists = Lists::of(&largest(random));
-    let damaged = random.between(1, 16_383) as usize;
+    let mut lists = full;
+    let damaged = random.between(1, profile.most_edges() - 1) as usize;
     lists
         .edges
         .copy_within(3 * damaged - 3..3 * damaged, 3 * damaged);

@@ -2,7 +2,8 @@
 
 use crate::case::Case;
 use crate::file::Header;
-use crate::make::{reduces, traces};
+use crate::make::{conversions, reduces, traces};
+use crate::profile::{Profile, LARGE};
 use crate::random::Random;
 
 #[derive(Clone, Copy, Debug, PartialEq, Eq)]
@@ -50,28 +51,31 @@ pub fn unused_string(mut case: Case, random: &mut Random) -> Case {
     case
 }
 
-/// The file checked, unpacked into rooms of some kind, traced with some observations, and reduced.
-pub fn cases_of_file(random: &mut Random, file: Vec<u8>) -> Vec<Case> {
-    let (colours, edges) = wanted_by(&file);
+/// The file checked, unpacked into rooms of some kind, traced with some observations, converted, and reduced; of pocket files
+/// one in three, since a reduction takes the proved program as long as twenty other calls, whatever the file.
+pub fn cases_of_file(profile: Profile, random: &mut Random, file: Vec<u8>) -> Vec<Case> {
+    let (colours, edges) = wanted_by(profile, &file);
     let colour_room = any(random).found(colours, random);
     let edge_room = any(random).found(edges, random);
-    vec![
-        Case::check(file.clone()),
-        Case::unpack(file.clone(), colour_room, edge_room),
-        traces::of_file(random, file.clone()),
-        reduces::of_file(random, file),
-    ]
+    let mut cases = vec![
+        Case::check(profile, file.clone()),
+        Case::unpack(profile, file.clone(), colour_room, edge_room),
+        traces::of_any_file(profile, random, file.clone()),
+        conversions::of_file(profile, random, file.clone()),
+    ];
+    if profile == LARGE || random.once_in(3) {
+        cases.push(reduces::of_file(profile, random, file));
+    }
+    cases
 }
 
 /// What the header asks for; but little where the file is far too short to hold that.
-fn wanted_by(file: &[u8]) -> (usize, usize) {
-    let Some(header) = Header::of(file) else {
+fn wanted_by(profile: Profile, file: &[u8]) -> (usize, usize) {
+    let Some(Header { n, e, .. }) = profile.header(file) else {
         return (3, 12);
     };
-    let n = header.n as usize;
-    let e = header.e as usize;
-    if 3 * e > 2 * file.len() {
-        return (n, 12);
+    if 2 * (file.len() as u64) < profile.length(n, e) {
+        return (n as usize, 12);
     }
-    (n, 3 * e)
+    (n as usize, 3 * e as usize)
 }

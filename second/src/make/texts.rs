@@ -2,11 +2,12 @@
 
 use crate::case::Case;
 use crate::dot::{self, labels_up_to};
-use crate::file::{length, Edge, Filter};
+use crate::file::{Edge, Filter};
 use crate::make::edits::{byte_edits, numbers, replaced, HABITS, NUMBERS};
 use crate::make::filters::{filter, shapes, small};
 use crate::make::rooms::{any, unused_string, Room};
 use crate::make::Family;
+use crate::profile::LARGE;
 use crate::random::Random;
 
 pub const FAMILIES: &[Family<Case>] = &[
@@ -73,7 +74,7 @@ pub fn in_room(text: Vec<u8>, room: Room, random: &mut Random) -> Case {
     let lines = text.iter().filter(|&&byte| byte == b'\n').count();
     let edges = text.iter().filter(|&&byte| byte == b'>').count();
     let states = lines.saturating_sub(edges + 2);
-    let wanted = length(states as u64, edges as u64);
+    let wanted = LARGE.length(states as u64, edges as u64);
     let found = room.found(wanted as usize, random);
     unused_string(Case::from_dot(text, found), random)
 }
@@ -95,7 +96,7 @@ fn few_lines(random: &mut Random) -> Filter {
     let n = random.between(1, 3);
     let m = random.between(1, 64);
     let e = random.between(0, (n * m).min(3));
-    drawable(filter(random, n, m, e))
+    drawable(filter(LARGE, random, n, m, e))
 }
 
 /// One with numbers of one to three digits, which may have no states.
@@ -122,7 +123,7 @@ fn few_lines_of_both_kinds(random: &mut Random) -> [Vec<u8>; 2] {
 /// Each shape in each room.
 pub fn accepted(random: &mut Random) -> Vec<Case> {
     let mut cases = Vec::new();
-    for filter in shapes(random).into_iter().map(drawable) {
+    for filter in shapes(LARGE, random).into_iter().map(drawable) {
         for room in Room::ALL {
             cases.push(in_room(text_of(&filter), room, random));
         }
@@ -221,7 +222,7 @@ pub fn framed(lines: &str) -> Vec<u8> {
 /// Skipped, repeated, exchanged, counted down, counted from 1, and behind an edge: all of them are outside the profile.
 pub fn states_in_disorder(random: &mut Random) -> Vec<Case> {
     let n = random.between(3, 13);
-    let base = drawable(filter(random, n, 3, 3));
+    let base = drawable(filter(LARGE, random, n, 3, 3));
     let at = random.between(0, n - 2) as usize;
     let edit = |edit: fn(&mut Lines, usize)| {
         let mut lines = Lines::of(&base);
@@ -278,7 +279,7 @@ pub fn noise(random: &mut Random) -> Vec<Case> {
     for length in 0..=64 {
         texts.push(random.bytes(length));
         texts.push([b"digraph {\n", &random.bytes(length)[..]].concat());
-        let text = text_of(&small(random));
+        let text = text_of(&small(LARGE, random));
         let kept = random.between(0, text.len() as u64) as usize;
         texts.push([&text[..kept], &random.bytes(length)].concat());
     }

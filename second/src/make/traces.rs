@@ -1,86 +1,71 @@
 //! The families of observations, for trace.
 
 use crate::case::Case;
-use crate::file::{write, Edge, Filter, Header};
+use crate::file::{read, Edge, Filter};
 use crate::frame::LONGEST;
 use crate::make::damage::outside;
 use crate::make::draft::Draft;
-use crate::make::filters::{damageable, filter, large, largest, shapes, small};
+use crate::make::filters::{
+    damageable, filter, large, largest, many_labels, many_states, shapes, small,
+};
 use crate::make::rooms::{any, Room};
-use crate::make::Family;
+use crate::profile::{Profile, LARGE};
 use crate::random::Random;
 use crate::rides::{K, K_OBSERVATIONS, K_REDUCED, R_OBSERVATIONS};
 use crate::trace::MOST_OBSERVATIONS;
 
-pub const FAMILIES: &[Family<Case>] = &[
-    Family {
-        name: "the document's traces",
-        times: 1,
-        make: of_the_document,
-    },
-    Family {
-        name: "no observations",
-        times: 10,
-        make: no_observations,
-    },
-    Family {
-        name: "full rides",
-        times: 25,
-        make: full_rides,
-    },
-    Family {
-        name: "stopped rides",
-        times: 100,
-        make: stopped_rides,
-    },
-    Family {
-        name: "labels outside",
-        times: 60,
-        make: labels_outside,
-    },
-    Family {
-        name: "two faults of a trace",
-        times: 40,
-        make: two_faults,
-    },
-    Family {
-        name: "traces through faulty files",
-        times: 10,
-        make: through_faulty_files,
-    },
-    Family {
-        name: "random observations",
-        times: 1_500,
-        make: random_observations,
-    },
-    Family {
-        name: "rides through large files",
-        times: 1,
-        make: through_large_files,
-    },
-    Family {
-        name: "as many observations as a ride takes, and more",
-        times: 1,
-        make: many_observations,
-    },
-];
+of_each_profile! { Case, once in 2:
+    "the document's traces" => 1 * of_the_document,
+    "no observations" => 10 * no_observations,
+    "full rides" => 25 * full_rides,
+    "stopped rides" => 100 * stopped_rides,
+    "labels outside" => 60 * labels_outside,
+    "two faults of a trace" => 40 * two_faults,
+    "traces through faulty files" => 10 * through_faulty_files,
+    "random observations" => 1500 * random_observations,
+    "rides through large files" => 1 * through_large_files,
+    "as many observations as a ride takes, and more" => 1 * many_observations,
+}
 
 /// The observations traced in a room of some kind.
-fn in_room(file: Vec<u8>, observations: Vec<u8>, room: Room, random: &mut Random) -> Case {
+fn of_bytes(
+    profile: Profile,
+    file: Vec<u8>,
+    observations: Vec<u8>,
+    room: Room,
+    random: &mut Random,
+) -> Case {
     let found = room.found(observations.len() + 1, random);
-    Case::trace(file, observations, found)
+    Case::trace(profile, file, observations, found)
+}
+
+/// The same of a file that holds the filter.
+fn in_room(
+    profile: Profile,
+    filter: &Filter,
+    observations: &[u8],
+    room: Room,
+    random: &mut Random,
+) -> Case {
+    let file = profile.write(filter);
+    of_bytes(profile, file, observations.to_vec(), room, random)
+}
+
+/// A large file traced, as the next.
+pub fn of_file(random: &mut Random, file: Vec<u8>) -> Case {
+    of_any_file(LARGE, random, file)
 }
 
 /// The file traced with a few observations, mostly of labels that its header allows.
-pub fn of_file(random: &mut Random, file: Vec<u8>) -> Case {
-    let m = Header::of(&file).map_or(3, |header| header.m);
+pub fn of_any_file(profile: Profile, random: &mut Random, file: Vec<u8>) -> Case {
+    let m = profile.header(&file).map_or(3, |header| header.m);
     let count = random.between(0, 12);
     let mut observations = labels(m, count as usize, random);
     if random.once_in(8) {
         observations.push(outside(random, m, 255) as u8);
     }
     let room = any(random);
-    in_room(file, observations, room, random)
+    of_bytes(profile, file, observations, room, random)
 }
 
 /// Any labels below m.
@@ -130,8 +115,8 @@ fn stopping(filter: &Filter, count: usize, stop: usize, random: &mut Random) -> 
 }
 
 /// A filter where one can go on for ever and stop anywhere: each state has an edge and lacks one.
-fn open(random: &mut Random, n: u64, m: u64) -> Filter {
-    let mut open = filter(random, n, m, 0);
+fn open(profile: Profile, random: &mut Random, n: u64, m: u64) -> Filter {
+    let mut open = filter(profile, random, n, m, 0);
     for source in 0..n {
         let kept = random.between(0, m - 1);
         let left_out = (kept + random.between(1, m - 1)) % m;
@@ -148,22 +133,22 @@ fn open(random: &mut Random, n: u64, m: u64) -> Filter {
     open
 }
 
-fn small_open(random: &mut Random) -> Filter {
+fn small_open(profile: Profile, random: &mut Random) -> Filter {
     let n = random.between(1, 10);
     let m = random.between(2, 6);
-    open(random, n, m)
+    open(profile, random, n, m)
 }
 
 /// An open filter, now and then one with many states or labels.
-fn any_open(random: &mut Random) -> Filter {
+fn any_open(profile: Profile, random: &mut Random) -> Filter {
     let n = random.between(1, 10);
     let m = random.between(2, 6);
-    let many_states = random.between(200, 256);
-    let many_labels = random.between(57, 64);
+    let many_states = many_states(profile, random);
+    let many_labels = many_labels(profile, random);
     match random.between(1, 12) {
-        1 => open(random, many_states, m),
-        2 => open(random, n, many_labels),
-        _ => small_open(random),
+        1 => open(profile, random, many_states, m),
+        2 => open(profile, random, n, many_labels),
+        _ => small_open(profile, random),
     }
 }
 
@@ -177,13 +162,14 @@ fn some_count(random: &mut Random) -> usize {
     random.between(3, 40) as usize
 }
 
-/// K's two files and ride R, with each room.
-pub fn of_the_document(random: &mut Random) -> Vec<Case> {
+/// K, K reduced and ride R, with each room.
+pub fn of_the_document(profile: Profile, random: &mut Random) -> Vec<Case> {
     let mut cases = Vec::new();
     for file in [K, K_REDUCED] {
+        let filter = read(file).expect("accepted");
         for observations in [K_OBSERVATIONS, R_OBSERVATIONS] {
             for room in Room::ALL {
-                cases.push(in_room(file.to_vec(), observations.to_vec(), room, random));
+                cases.push(in_room(profile, &filter, observations, room, random));
             }
         }
     }
@@ -191,58 +177,59 @@ pub fn of_the_document(random: &mut Random) -> Vec<Case> {
 }
 
 /// Each shape with each room.
-pub fn no_observations(random: &mut Random) -> Vec<Case> {
+pub fn no_observations(profile: Profile, random: &mut Random) -> Vec<Case> {
     let mut cases = Vec::new();
-    for filter in shapes(random) {
+    for filter in shapes(profile, random) {
         for room in Room::ALL {
-            cases.push(in_room(write(&filter), Vec::new(), room, random));
+            cases.push(in_room(profile, &filter, &[], room, random));
         }
     }
     cases
 }
 
 /// Each shape and some open filters, with each room.
-pub fn full_rides(random: &mut Random) -> Vec<Case> {
-    let mut filters = shapes(random);
+pub fn full_rides(profile: Profile, random: &mut Random) -> Vec<Case> {
+    let mut filters = shapes(profile, random);
     for _ in 0..10 {
-        filters.push(any_open(random));
+        filters.push(any_open(profile, random));
     }
     let mut cases = Vec::new();
     for filter in &filters {
         let count = some_count(random);
         let (observations, _) = walk(filter, count, random);
         for room in Room::ALL {
-            cases.push(in_room(write(filter), observations.clone(), room, random));
+            cases.push(in_room(profile, filter, &observations, room, random));
         }
     }
     cases
 }
 
 /// Stopped at the first, a middle and the last observation, with each room.
-pub fn stopped_rides(random: &mut Random) -> Vec<Case> {
+pub fn stopped_rides(profile: Profile, random: &mut Random) -> Vec<Case> {
     let mut cases = Vec::new();
     for nth in 0..3 {
         for room in Room::ALL {
-            let filter = any_open(random);
+            let filter = any_open(profile, random);
             let count = some_count(random);
             let stop = places(count, random)[nth];
             let observations = stopping(&filter, count, stop, random);
-            cases.push(in_room(write(&filter), observations, room, random));
+            cases.push(in_room(profile, &filter, &observations, room, random));
         }
     }
     cases
 }
 
-/// m, 255, one between them and one that is a label once it is cut down to six bits, each at the first, a middle and
+/// m, 255, one between them and one that is a label once it is cut down to the bits of one, each at the first, a middle and
 /// the last observation; with room enough, and in rides that would be traced or that would stop before.
-pub fn labels_outside(random: &mut Random) -> Vec<Case> {
+pub fn labels_outside(profile: Profile, random: &mut Random) -> Vec<Case> {
+    let most = profile.most_labels();
     let mut cases = Vec::new();
     for nth in 0..3 {
         for which in 0..4 {
             for stops in [false, true] {
-                let filter = any_open(random);
+                let filter = any_open(profile, random);
                 let m = filter.m;
-                let cut_down = 64 * random.between(1, 3) + random.between(0, m - 1);
+                let cut_down = most * random.between(1, 255 / most) + random.between(0, m - 1);
                 let label = [m, 255, random.between(m, 255), cut_down][which];
                 let count = some_count(random);
                 let at = places(count, random)[nth];
@@ -253,7 +240,7 @@ pub fn labels_outside(random: &mut Random) -> Vec<Case> {
                 };
                 observations[at] = label as u8;
                 let room = random.pick(&[Room::Exact, Room::Longer]);
-                cases.push(in_room(write(&filter), observations, room, random));
+                cases.push(in_room(profile, &filter, &observations, room, random));
             }
         }
     }
@@ -262,38 +249,43 @@ pub fn labels_outside(random: &mut Random) -> Vec<Case> {
 
 /// Two labels outside, of which the first decides; a label outside and a room too short, which is 12; and a room that
 /// holds all that a stopped ride would write but not what is asked for, which is 12 too.
-pub fn two_faults(random: &mut Random) -> Vec<Case> {
+pub fn two_faults(profile: Profile, random: &mut Random) -> Vec<Case> {
     let mut cases = Vec::new();
     for nth in 0..3 {
-        let filter = any_open(random);
-        let file = write(&filter);
+        let filter = any_open(profile, random);
         let count = some_count(random);
         let at = places(count, random)[nth];
 
         let mut observations = full_walk(&filter, count, random);
         observations[at] = outside(random, filter.m, 255) as u8;
         for room in [Room::OneShort, Room::Empty] {
-            cases.push(in_room(file.clone(), observations.clone(), room, random));
+            cases.push(in_room(profile, &filter, &observations, room, random));
         }
         observations.push(outside(random, filter.m, 255) as u8);
         let room = random.pick(&[Room::Exact, Room::Longer]);
-        cases.push(in_room(file.clone(), observations, room, random));
+        cases.push(in_room(profile, &filter, &observations, room, random));
 
         let observations = stopping(&filter, count + 1, at, random);
-        cases.push(Case::trace(file, observations, random.bytes(at + 1)));
+        let found = random.bytes(at + 1);
+        cases.push(Case::trace(
+            profile,
+            profile.write(&filter),
+            observations,
+            found,
+        ));
     }
     cases
 }
 
 /// A file with each fault from 1 to 9, in a trace that is right otherwise, that has a label outside, too short a room,
 /// or both: the file's number comes always.
-pub fn through_faulty_files(random: &mut Random) -> Vec<Case> {
+pub fn through_faulty_files(profile: Profile, random: &mut Random) -> Vec<Case> {
     let mut cases = Vec::new();
     for number in 1..=9 {
         for (label_outside, short_room) in
             [(false, false), (true, false), (false, true), (true, true)]
         {
-            let filter = damageable(random);
+            let filter = damageable(profile, random);
             let count = some_count(random);
             let (mut observations, _) = walk(&filter, count, random);
             if label_outside {
@@ -304,62 +296,64 @@ pub fn through_faulty_files(random: &mut Random) -> Vec<Case> {
             } else {
                 random.pick(&[Room::Exact, Room::Longer])
             };
-            let mut draft = Draft::of(filter);
+            let mut draft = Draft::of(profile, filter);
             draft.spoil(number, random);
-            cases.push(in_room(draft.bytes(), observations, room, random));
+            cases.push(of_bytes(profile, draft.bytes(), observations, room, random));
         }
     }
     cases
 }
 
 /// Labels below m or, once in a while, up to it.
-pub fn random_observations(random: &mut Random) -> Vec<Case> {
-    let filter = small(random);
+pub fn random_observations(profile: Profile, random: &mut Random) -> Vec<Case> {
+    let filter = small(profile, random);
     let top = if random.once_in(4) {
         filter.m
     } else {
         filter.m - 1
     };
     let count = random.between(0, 12);
-    let observations = (0..count).map(|_| random.between(0, top) as u8).collect();
+    let observations: Vec<u8> = (0..count).map(|_| random.between(0, top) as u8).collect();
     let room = any(random);
-    vec![in_room(write(&filter), observations, room, random)]
+    vec![in_room(profile, &filter, &observations, room, random)]
 }
 
 /// Through all states, labels and edges that there can be, through open filters of that size, and through any.
-pub fn through_large_files(random: &mut Random) -> Vec<Case> {
+pub fn through_large_files(profile: Profile, random: &mut Random) -> Vec<Case> {
+    let (states, labels) = (profile.most_states(), profile.most_labels());
     let count = random.between(100, 300) as usize;
     let mut cases = Vec::new();
+    let mut add = |filter: &Filter, observations: &[u8], room: Room, random: &mut Random| {
+        cases.push(in_room(profile, filter, observations, room, random));
+    };
 
-    let filter = largest(random);
+    let filter = largest(profile, random);
     let mut observations = full_walk(&filter, count, random);
     for room in [Room::Exact, Room::Longer] {
-        let file = write(&filter);
-        cases.push(in_room(file, observations.clone(), room, random));
+        add(&filter, &observations, room, random);
     }
-    observations[count / 2] = 64;
-    cases.push(in_room(write(&filter), observations, Room::Exact, random));
+    observations[count / 2] = labels as u8;
+    add(&filter, &observations, Room::Exact, random);
 
-    let filter = open(random, 256, 64);
+    let filter = open(profile, random, states, labels);
     let observations = full_walk(&filter, count, random);
-    cases.push(in_room(write(&filter), observations, Room::Exact, random));
+    add(&filter, &observations, Room::Exact, random);
     let stops = places(count, random);
     let stop = random.pick(&stops);
     let observations = stopping(&filter, count, stop, random);
-    cases.push(in_room(write(&filter), observations, Room::Longer, random));
+    add(&filter, &observations, Room::Longer, random);
 
-    let filter = large(random);
+    let filter = large(profile, random);
     let (observations, _) = walk(&filter, count, random);
-    cases.push(in_room(write(&filter), observations, Room::Exact, random));
+    add(&filter, &observations, Room::Exact, random);
     cases
 }
 
 /// Around 65,535, and as many as a case can hold. The rooms are enough, too short by one, or right for a number that
 /// was cut down to 16 bits.
-pub fn many_observations(random: &mut Random) -> Vec<Case> {
+pub fn many_observations(profile: Profile, random: &mut Random) -> Vec<Case> {
     // Few edges, for each step may look through all of them.
-    let filter = small_open(random);
-    let file = write(&filter);
+    let filter = small_open(profile, random);
     let most = MOST_OBSERVATIONS;
     let full = full_walk(&filter, most, random);
     let mut label_outside = full.clone();
@@ -386,8 +380,9 @@ pub fn many_observations(random: &mut Random) -> Vec<Case> {
     ]);
     let mut cases = Vec::new();
     for (observations, room) in traces {
-        cases.push(in_room(file.clone(), observations, room, random));
+        cases.push(in_room(profile, &filter, &observations, room, random));
     }
+    let file = profile.write(&filter);
     let many = full_walk(&filter, LONGEST, random);
     for (count, room) in [
         (most + 1, 1),
@@ -397,7 +392,7 @@ pub fn many_observations(random: &mut Random) -> Vec<Case> {
     ] {
         let observations = many[..count].to_vec();
         let found = random.bytes(room);
-        cases.push(Case::trace(file.clone(), observations, found));
+        cases.push(Case::trace(profile, file.clone(), observations, found));
     }
     cases
 }
