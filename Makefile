@@ -44,7 +44,7 @@ install: lib programs tool
 bench: lib
 	@bench/run
 
-# Random cases through both programs for TIME seconds.
+# Every file of three bytes through both programs as a pocket file, then random cases for TIME seconds.
 soak:
 	@mkdir -p target
 	@.ci/progress target/soak.log rt check answers

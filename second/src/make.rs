@@ -71,6 +71,7 @@ pub mod rooms;
 pub mod texts;
 pub mod three_bytes;
 pub mod traces;
+pub mod unpacks;
 
 /// A case and the name of the family that made it.
 pub struct Made {
@@ -105,8 +106,9 @@ pub fn batch(random: &mut Random) -> Vec<Made> {
 }
 
 /// The families that are for one call each.
-fn of_calls(profile: Profile) -> [&'static [Family<Case>]; 3] {
+fn of_calls(profile: Profile) -> [&'static [Family<Case>]; 4] {
     [
+        unpacks::families(profile),
         lists::families(profile),
         traces::families(profile),
         reduces::families(profile),

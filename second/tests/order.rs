@@ -12,7 +12,7 @@ use second::make::draft::Draft;
 use second::make::filters::shapes;
 use second::make::rooms::Room;
 use second::make::{
-    contents, conversions, drawings, files, leftovers, lists, reduces, texts, traces,
+    contents, conversions, drawings, files, leftovers, lists, reduces, texts, traces, unpacks,
 };
 use second::profile::{Profile, LARGE, POCKET, PROFILES};
 use second::random::{seed_or, Random};
@@ -186,6 +186,17 @@ fn fillings(profile: Profile, random: &mut Random) -> BTreeSet<(usize, u8)> {
         seen.insert((free_bits(bits as usize), profile.check(&file).number));
     }
     seen
+}
+
+#[test]
+fn a_short_room_of_unpacking_is_12() {
+    for_seeds(20, |random| {
+        let cases = PROFILES.map(|profile| unpacks::all_rooms(profile, random));
+        for (i, case) in cases.concat().iter().enumerate() {
+            let fits = enough(i / Room::ALL.len()) && enough(i);
+            assert_eq!(number(case), if fits { 0 } else { 12 });
+        }
+    });
 }
 
 #[test]

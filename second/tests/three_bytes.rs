@@ -5,6 +5,7 @@ use second::call::Answer;
 use second::compare::Batch;
 use second::make::three_bytes::{beginning_with, file};
 use second::profile::POCKET;
+use std::collections::BTreeSet;
 
 /// The number by the definition alone, with n - 1 in the top 4 bits, m - 1 in the next 3, start in 4, e in 8.
 fn number(bits: u32) -> u8 {
@@ -49,6 +50,7 @@ fn the_second_program_goes_by_the_definition() {
 /// The first four bits are 0, so n is 1: only these have the length that the header asks for.
 #[test]
 fn the_proved_program_agrees_on_all_of_one_state() {
+    let mut tried = BTreeSet::new();
     let mut accepted = 0;
     for first in 0..16 {
         let name = format!("second-three-bytes-{first}");
@@ -59,6 +61,7 @@ fn the_proved_program_agrees_on_all_of_one_state() {
         let is_accepted = |answer: &Answer| answer.number == 0;
         let answers = outcomes.iter().map(|outcome| outcome.answer);
         accepted += answers.filter(is_accepted).count();
+        tried.extend(batch.cases().iter().map(|case| case.a.clone()));
     }
-    assert_eq!(accepted, 128);
+    assert_eq!((tried.len(), accepted), (1 << 20, 128));
 }
