@@ -74,7 +74,7 @@ pub fn pocket_headed(file: &[u8]) -> Checked
     headed_as(layout::pocket(), file)
 }
 
-// The same for any widths. In each archive for C it has one caller, so that it is inlined there and the widths are constants.
+// The same for any widths. Where one file's calls are compiled alone it has one caller, is inlined there, and the widths are constants.
 fn headed_as(p: Profile, file: &[u8]) -> Checked
     requires { ⌜ Usable p ⌝ }
     ensures { λ r. ⌜ checkedOutcome r ≡ headOf p (now (file .entry)) ⌝ }
