@@ -4,7 +4,7 @@ PREFIX ?= /usr/local
 TIME ?= 600
 ARCHIVE := target/lib/libpierhollow.a
 
-.PHONY: run test lib programs tool install bench soak
+.PHONY: run test lib programs tool install bench instructions soak
 
 run:
 	@mkdir -p target
@@ -43,6 +43,10 @@ install: lib programs tool
 # The library against plain C: ratios, growth, stack and sizes.
 bench: lib
 	@bench/run
+
+# The same ratios by instructions, which any machine can count.
+instructions: lib
+	@bench/instructions
 
 # Every file of three bytes through both programs as a pocket file, then random cases for TIME seconds.
 soak:

@@ -15,8 +15,6 @@
 #include "compare.h"
 #include "subjects.h"
 
-static const char *const titles[] = {[LARGE] = "Large files", [POCKET] = "Pocket files"};
-
 #ifndef PLAIN_COUNT
 
 /* Time. */
@@ -98,20 +96,13 @@ static const char *in_words(double ns, char text[16])
     return text;
 }
 
-/* The most that a ratio should be; 0 where none is set. */
-static double target(size_t family, size_t line)
-{
-    enum { FEWEST_STATES = 8 }; /* of a pocket file that has targets: with fewer, a call's beginning and end are most of it */
-    return families[family].form == POCKET && families[family].n < FEWEST_STATES ? 0 : calls[lines[line].call].target;
-}
-
 /* Prints one line of the ratios; answers whether it is above its target. */
 static int print_ratio(size_t family, size_t line, double allowed)
 {
     char x[16], y[16], limit[16] = "";
     struct job job = job_of_line(&subjects[family], line);
     struct timing t = time_both(&job, allowed);
-    double most = target(family, line);
+    double most = target_of(family, line);
     int high = most > 0 && t.middle > most;
     if (most > 0)
         snprintf(limit, sizeof limit, "%.1f", most);
@@ -130,7 +121,7 @@ static void print_ratios(enum form form, double allowed)
     for (size_t family = 0; family < FAMILIES; family++)
         for (size_t line = 0; line < LINES; line++)
             if (families[family].form == form && is_measured(family, line)) {
-                with_target += target(family, line) > 0;
+                with_target += target_of(family, line) > 0;
                 above += (size_t)print_ratio(family, line, allowed);
             }
     printf("\n%zu of %zu ratios are above their target.\n\n", above, with_target);

@@ -75,6 +75,8 @@ struct job job_of(const struct subject *s, enum call_number number, size_t obser
     return job;
 }
 
+const char *const titles[] = {[LARGE] = "Large files", [POCKET] = "Pocket files"};
+
 const struct family families[FAMILIES] = {
     {"smallest file", LARGE, make_bare, 1, 1},
     {"one agent, 5 beams", LARGE, make_one_agent, 11, 5},
@@ -135,6 +137,12 @@ const struct line lines[LINES] = {
 int is_measured(size_t family, size_t line)
 {
     return calls[lines[line].call].measured_on == families[family].form;
+}
+
+double target_of(size_t family, size_t line)
+{
+    enum { FEWEST_STATES = 8 }; /* of a pocket file that has targets: with fewer, a call's beginning and end are most of it */
+    return families[family].form == POCKET && families[family].n < FEWEST_STATES ? 0 : calls[lines[line].call].target;
 }
 
 struct job job_of_line(const struct subject *s, size_t line)

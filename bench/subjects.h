@@ -57,6 +57,9 @@ struct family {
     size_t n, m;
 };
 
+/* Of the tables on LARGE and on POCKET files. */
+extern const char *const titles[];
+
 enum { FAMILIES = 27 };
 
 extern const struct family families[FAMILIES];
@@ -77,6 +80,9 @@ extern const struct line lines[LINES];
 
 /* Whether the tables have this line for this family. */
 int is_measured(size_t family, size_t line);
+
+/* The most that archive / plain C should be; 0 where none is set. */
+double target_of(size_t family, size_t line);
 
 struct job job_of_line(const struct subject *s, size_t line);
 
