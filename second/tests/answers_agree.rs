@@ -8,6 +8,7 @@ use second::profile::{Profile, LARGE, POCKET, PROFILES};
 use second::random::{seed, Random};
 use std::collections::BTreeMap;
 use std::path::Path;
+use std::thread;
 
 const BATCHES: usize = 20;
 
@@ -133,15 +134,26 @@ fn answers_agree() {
     let seed = seed();
     let mut random = Random::new(seed);
     let mut tally = Tally::default();
-    for nth in 0..BATCHES {
-        let name = format!("second-{seed}-{nth}");
-        let batch = Batch::new(name, make::batch(&mut random));
-        let outcomes = batch.compare().unwrap_or_else(|difference| {
-            let saved = batch.save(&difference, Path::new(env!("CARGO_BIN_EXE_soak")));
-            panic!("SEED={seed}, batch {nth}: {}\n{saved}", difference.report)
+    // Two at a time, for most of it is waiting for one program on one processor.
+    for first in (0..BATCHES).step_by(2) {
+        let pair = [first, first + 1].map(|nth| {
+            let name = format!("second-{seed}-{nth}");
+            (nth, Batch::new(name, make::batch(&mut random)))
         });
-        for (case, outcome) in batch.cases().iter().zip(&outcomes) {
-            tally.add(case, outcome);
+        let compared = thread::scope(|scope| {
+            let comparing = pair
+                .each_ref()
+                .map(|(_, batch)| scope.spawn(|| batch.compare()));
+            comparing.map(|batch| batch.join().expect("a batch compared"))
+        });
+        for ((nth, batch), outcomes) in pair.iter().zip(compared) {
+            let outcomes = outcomes.unwrap_or_else(|difference| {
+                let saved = batch.save(&difference, Path::new(env!("CARGO_BIN_EXE_soak")));
+                panic!("SEED={seed}, batch {nth}: {}\n{saved}", difference.report)
+            });
+            for (case, outcome) in batch.cases().iter().zip(&outcomes) {
+                tally.add(case, outcome);
+            }
         }
     }
     println!("{:?}", tally.counts);

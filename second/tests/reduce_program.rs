@@ -18,6 +18,7 @@ use second::random::{seed, Random};
 use second::rides::*;
 use std::collections::BTreeSet;
 use std::process::Command;
+use std::thread;
 use std::time::Duration;
 
 const LEAST_FILES: usize = 500;
@@ -132,11 +133,21 @@ fn files_agree() {
     let files = files_of_all_families(&mut random, 36, 8);
     println!("{} files", files.len());
     assert!(files.len() >= LEAST_FILES, "only {} files", files.len());
-    let mut seen = BTreeSet::new();
-    for (nth, (family, file)) in files.into_iter().enumerate() {
-        agree_on(&format!("SEED={seed}, file {nth}, family: {family}"), &file);
-        seen.extend(kinds_of(file));
-    }
+    let compared = |first: usize, part: &[(&str, Vec<u8>)]| {
+        for (nth, (family, file)) in (first..).zip(part) {
+            agree_on(&format!("SEED={seed}, file {nth}, family: {family}"), file);
+        }
+    };
+    // By halves, for most of it is waiting for one program on one processor.
+    let half = files.len() / 2;
+    thread::scope(|scope| {
+        scope.spawn(|| compared(0, &files[..half]));
+        compared(half, &files[half..]);
+    });
+    let seen: BTreeSet<Kind> = files
+        .into_iter()
+        .flat_map(|(_, file)| kinds_of(file))
+        .collect();
     let of_the_rooms = [Kind::Number(10), Kind::Number(11), Kind::BothShort];
     let missing: Vec<Kind> = kinds::all_of(Call::Reduce(LARGE))
         .into_iter()
