@@ -44,7 +44,7 @@ install: lib programs tool
 bench: lib
 	@bench/run
 
-# The same ratios by instructions, which any machine can count.
+# The same ratios by x86-64 instructions, which Arm can count too.
 instructions: lib
 	@bench/instructions
 
