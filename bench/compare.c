@@ -80,7 +80,7 @@ static void compare_rooms(const struct subject *s, const char *where)
     }
 }
 
-/* Filters around what a pocket file holds and what a large one does, with this colour in one state. */
+/* Filters around what a pocket file holds and what a large one does, with this colour in one state; a fault is kept. */
 static void compare_limits(void)
 {
     static const size_t states[] = {1, 15, 16, 17, 256};
@@ -92,9 +92,64 @@ static void compare_limits(void)
             for (size_t c = 0; c < sizeof colours / sizeof *colours; c++) {
                 make_dense(&s.filter, states[n], labels[m], SEED);
                 s.filter.colours[states[n] / 2] = colours[c];
+                seal_faults(&s.filter);
                 prepare(&s, SHORT_RIDE);
                 compare_rooms(&s, "a filter at the limits of a file");
             }
+}
+
+/* Faults, many of which are left: no pack writes such a file, so that the colours are changed behind it. */
+
+/* A family whose states from this one on are faults. */
+static void compare_last_faults(size_t family, size_t first)
+{
+    static struct subject s;
+    s = subjects[family];
+    memset(s.filter.colours + first, FAULT_COLOUR, s.filter.n - first);
+    recolour(&s);
+    compare_rooms(&s, "a family with faults");
+}
+
+/* Three states that lead where the bits say, and are faults where the bits say. */
+static void compare_three(unsigned targets, unsigned faults)
+{
+    static struct subject s;
+    make_three(&s.filter, targets);
+    prepare(&s, SHORT_RIDE);
+    for (size_t state = 0; state < s.filter.n; state++)
+        s.filter.colours[state] = faults >> state & 1 ? FAULT_COLOUR : 0;
+    recolour(&s);
+    compare_rooms(&s, "three states, some of them faults");
+}
+
+/* An edge from one colour to another. */
+static void compare_colours(uint8_t from, uint8_t to)
+{
+    static struct subject s;
+    make_chain(&s.filter, 2, 1, SEED);
+    s.filter.e = 1;
+    prepare(&s, SHORT_RIDE);
+    s.filter.colours[0] = from;
+    s.filter.colours[1] = to;
+    recolour(&s);
+    compare_rooms(&s, "an edge from one colour to another");
+}
+
+static void compare_faults(void)
+{
+    for (size_t family = 0; family < FAMILIES; family++) {
+        size_t n = subjects[family].filter.n;
+        compare_last_faults(family, 0);
+        compare_last_faults(family, n / 2);
+        compare_last_faults(family, n - 1);
+    }
+    for (unsigned targets = 0; targets < 64; targets++)
+        for (unsigned faults = 0; faults < 8; faults++)
+            compare_three(targets, faults);
+    for (unsigned colour = 0; colour <= FAULT_COLOUR; colour++) {
+        compare_colours((uint8_t)colour, FAULT_COLOUR);
+        compare_colours(FAULT_COLOUR, (uint8_t)colour);
+    }
 }
 
 /* Spoiling. */
@@ -201,18 +256,33 @@ static void spoil_text(struct written *text, const struct filter *f, uint64_t *s
     }
 }
 
-/* Makes a small filter in every form, some of them too large for a pocket file. */
+/* The states of one colour become faults, which their edges keep. */
+static void make_faults(struct filter *f, uint8_t colour)
+{
+    for (size_t s = 0; s < f->n; s++)
+        if (f->colours[s] == colour)
+            f->colours[s] = FAULT_COLOUR;
+    seal_faults(f);
+}
+
+/* Makes a small filter in every form, some of them too large for a pocket file, and some with faults. */
 static void prepare_any(struct subject *s, size_t ride, uint64_t *seed)
 {
     if (random_below(seed, 8) == 0)
         make_any(&s->filter, 20, 10, seed);
     else
         make_any(&s->filter, 10, 5, seed);
+    if (random_below(seed, 4) == 0)
+        make_faults(&s->filter, s->filter.colours[random_below(seed, s->filter.n)]);
     prepare(s, ride);
 }
 
 static void spoil(struct subject *s, size_t ride, uint64_t *seed)
 {
+    if (random_below(seed, 4) == 0) {
+        s->filter.colours[random_below(seed, s->filter.n)] = FAULT_COLOUR;
+        recolour(s);
+    }
     spoil_file(&s->forms[LARGE], 6, seed);
     spoil_file(&s->forms[POCKET], 3, seed);
     spoil_text(&s->forms[DRAWING], &s->filter, seed);
@@ -267,18 +337,19 @@ static void compare_states(size_t n)
     compare_sketch(&sketch, "a drawing of many states");
 }
 
-/* Drawings of two states and an edge, with this number for each of the four that it can stand for. */
+/* Drawings of two states and an edge, with this number for each that it can stand for: a part of the edge, or the colour of a state. */
 static void compare_number(unsigned number)
 {
     static struct sketch sketch;
-    for (size_t part = 0; part < 4; part++) {
+    for (size_t part = 0; part < 5; part++) {
         memset(&sketch, 0, sizeof sketch);
         sketch.n = 2;
         sketch.e = 1;
+        sketch.edges[0][2] = 1;
         if (part < 3)
             sketch.edges[0][part] = number;
         else
-            sketch.colours[1] = number;
+            sketch.colours[part - 3] = number;
         compare_sketch(&sketch, "a drawing with any number");
     }
 }
@@ -332,6 +403,7 @@ void compare_all(size_t spoilt)
     for (size_t family = 0; family < FAMILIES; family++)
         compare_family(family);
     compare_limits();
+    compare_faults();
     compare_drawings();
     for (size_t i = 0; i < spoilt; i++)
         compare_spoilt(&seed);

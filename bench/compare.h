@@ -8,7 +8,8 @@
 void compare(const struct job *job, const char *where);
 
 /*
- * Compares the calls on every family, at the limits of both files, on drawings, and on so many small filters that are mostly spoilt.
+ * Compares the calls on every family, at the limits of both files, on faults that are kept or left, on drawings, and on so many small
+ * filters that are mostly spoilt.
  * Ends the program unless every call gave each answer that it can give, and no other.
  */
 void compare_all(size_t spoilt);

@@ -119,6 +119,19 @@ void make_crowd(struct filter *f, size_t n, size_t m, uint64_t seed)
             add_edge(f, s, y, s >> y & 1 ? n - 1 : (s + 1) % (n - 1));
 }
 
+void make_fault(struct filter *f, size_t n, size_t m, uint64_t seed)
+{
+    begin(f, n, m);
+    colour_at_random(f, 4, &seed);
+    for (size_t s = 0; s < n; s++) {
+        int is_fault = s + 1 == n;
+        if (is_fault)
+            f->colours[s] = FAULT_COLOUR;
+        for (size_t y = 0; y < m; y++)
+            add_edge(f, s, y, is_fault || y + 1 == m ? n - 1 : random_below(&seed, n - 1));
+    }
+}
+
 void make_any(struct filter *f, size_t most_states, size_t most_labels, uint64_t *seed)
 {
     begin(f, 1 + random_below(seed, most_states), 1 + random_below(seed, most_labels));
@@ -129,6 +142,21 @@ void make_any(struct filter *f, size_t most_states, size_t most_labels, uint64_t
         for (size_t y = 0; y < f->m; y++)
             if (random_below(seed, 8) < eighths)
                 add_edge(f, s, y, random_below(seed, f->n));
+}
+
+void make_three(struct filter *f, unsigned targets)
+{
+    begin(f, 3, 1);
+    for (size_t s = 0; s < f->n; s++, targets >>= 2)
+        if (targets % 4 < f->n)
+            add_edge(f, s, 0, targets % 4);
+}
+
+void seal_faults(struct filter *f)
+{
+    for (uint8_t *edge = f->edges; edge < f->edges + 3 * f->e; edge += 3)
+        if (f->colours[edge[0]] == FAULT_COLOUR && f->colours[edge[2]] != FAULT_COLOUR)
+            edge[2] = edge[0];
 }
 
 /* A set of states of the world, a bit each: regions, or pairs of regions. */

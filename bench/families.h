@@ -9,7 +9,8 @@ enum {
     MOST_STATES = 256,
     MOST_LABELS = 64,
     MOST_EDGES = MOST_STATES * MOST_LABELS,
-    LONGEST_FILE = 45253
+    LONGEST_FILE = 45253,
+    FAULT_COLOUR = 63 /* which no edge of a large file may leave */
 };
 
 struct filter {
@@ -53,6 +54,12 @@ maker make_leftovers;
 maker make_crowd;
 
 /*
+ * The last state is a fault, and all its edges stay there. Every other state has every label: by the last one it leads to the fault, by
+ * the others anywhere else; targets and four colours at random.
+ */
+maker make_fault;
+
+/*
  * Filters over an annulus of as many regions as beams, as sets of possible states. Beam i stands between region i and the next one
  * round; it tells that some agent has crossed it, but neither which nor in what direction. One agent, at first anywhere: is it in
  * region 0? Two agents: are they in the same region? The colours are 0 and 1 for the question's two answers, 2 for unknown. The labels are
@@ -64,6 +71,12 @@ maker make_two_agents_anywhere; /* at first each may be anywhere */
 
 /* A filter of at most so many states and labels with any edges at all. */
 void make_any(struct filter *f, size_t most_states, size_t most_labels, uint64_t *seed);
+
+/* Three states of one label. Two bits a state, from the lowest on, say where it leads to; 3 is nowhere. */
+void make_three(struct filter *f, unsigned targets);
+
+/* Leads each edge that leaves a fault back to where it comes from. */
+void seal_faults(struct filter *f);
 
 /* A ride of so many observations that takes a random edge of each state that it comes to; behind a state without edges, label 0. */
 void make_ride(const struct filter *f, uint8_t *observations, size_t count, uint64_t seed);

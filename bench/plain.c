@@ -68,7 +68,7 @@ static inline uint64_t test_edges(const uint8_t *file, size_t length, const stru
             fill(table, &filling, edge);
     }
     COUNT(edges_decoded, e);
-    return all_passed(&passing) ? 0 : first_fault(file, length, h);
+    return verdict(&passing, file, length, h);
 }
 
 /* The tests of a file. */
@@ -183,17 +183,29 @@ static uint64_t test_list(const uint8_t *edges, const struct header *h)
     return all_passed(&passing) ? 0 : first_fault_listed(edges, h);
 }
 
+static uint64_t first_leaving_listed(const uint8_t *colours, const uint8_t *edges, const struct header *h)
+{
+    for (size_t i = 0; i < h->e; i++)
+        if (leaves_fault(colours, edges[3 * i], edges[3 * i + 2]))
+            return refused(FAULT, i);
+    return 0;
+}
+
 static uint64_t test_lists(const uint8_t *colours, const uint8_t *edges, size_t edges_length, const struct header *h)
 {
     if (h->n < 1 || h->n > MOST_STATES || h->m < 1 || h->m > MOST_LABELS)
         return refused(LISTS, 0);
-    if (largest(colours, h->n) >= COLOURS || edges_length % 3 != 0)
+    uint8_t most = largest(colours, h->n);
+    if (most >= COLOURS || edges_length % 3 != 0)
         return refused(LISTS, 0);
     if (h->start >= h->n)
         return refused(START, 0);
     if (h->e > h->n * h->m)
         return refused(EDGE_COUNT, 0);
-    return test_list(edges, h);
+    uint64_t fault = test_list(edges, h);
+    if (fault != 0)
+        return fault;
+    return HAS_FAULTS && most == FAULT_COLOUR ? first_leaving_listed(colours, edges, h) : 0;
 }
 
 static void push_colours(struct writer *to, const uint8_t *colours, size_t n)

@@ -22,7 +22,8 @@ enum {
 struct drawn {
     size_t n, e;
     unsigned most_colour, most_label;
-    int bad; /* the sign bit is set where some edge has an end that is not there, or does not ascend */
+    int bad;    /* the sign bit is set where some edge has an end that is not there, or does not ascend */
+    int leaves; /* not 0 where some edge leaves a fault; of bad edges it says nothing */
 };
 
 /*
@@ -109,8 +110,21 @@ static inline const uint8_t *read_edge(const uint8_t *begin, unsigned *source, u
     return at + LENGTH(LINE_END);
 }
 
-/* Reads the lines of edges as far as they go. */
-static void read_arrows(struct lines *lines, struct drawn *d)
+/* Marks the states that have the fault colour, in lines of states that are known to be of the profile. */
+static void mark_faults(const uint8_t *text, size_t n, uint8_t faults[MOST_STATES])
+{
+    const uint8_t *at = text + LENGTH(OPENING);
+    memset(faults, 0, MOST_STATES);
+    for (size_t s = 0; s < n; s++) {
+        unsigned state, colour;
+        at = read_digits(at, &state) + LENGTH(LABEL);
+        at = read_digits(at, &colour) + LENGTH(LINE_END);
+        faults[s % MOST_STATES] = colour == FAULT_COLOUR;
+    }
+}
+
+/* Reads the lines of edges as far as they go. `faults` is NULL where there are none. */
+static inline void read_arrows(struct lines *lines, struct drawn *d, const uint8_t *faults)
 {
     int most = (int)d->n - 1;
     int last = -1;
@@ -124,13 +138,15 @@ static void read_arrows(struct lines *lines, struct drawn *d)
         int key = (int)(source << 10 | label);
         d->bad |= (key - last - 1) | (most - (int)source) | (most - (int)target);
         last = key;
+        if (faults != NULL)
+            d->leaves |= faults[source % MOST_STATES] > faults[target % MOST_STATES];
         d->most_label = label > d->most_label ? label : d->most_label;
         d->e++;
     }
 }
 
-/* Whether a text is of the profile, and what its lines come to. */
-static int read_drawing(const uint8_t *text, size_t length, struct drawn *d)
+/* Whether a text is of the profile, and what its lines come to. Marks the faults if there are any. */
+static int read_drawing(const uint8_t *text, size_t length, struct drawn *d, uint8_t faults[MOST_STATES])
 {
     if (length < LENGTH(OPENING) || !BEGINS(text, OPENING))
         return 0;
@@ -138,7 +154,12 @@ static int read_drawing(const uint8_t *text, size_t length, struct drawn *d)
     *d = (struct drawn){0};
     if (!read_states(&lines, d))
         return 0;
-    read_arrows(&lines, d);
+    if (d->most_colour == FAULT_COLOUR) {
+        mark_faults(text, d->n, faults);
+        read_arrows(&lines, d, faults);
+    } else {
+        read_arrows(&lines, d, NULL);
+    }
     return lines.end - lines.at == LENGTH(CLOSING) && BEGINS(lines.at, CLOSING);
 }
 
@@ -234,6 +255,18 @@ static uint64_t first_fault_drawn(const uint8_t *text, const struct header *h)
     return fault;
 }
 
+/* There has to be an edge that leaves a fault. */
+static uint64_t first_leaving_drawn(const uint8_t *text, const struct header *h, const uint8_t *faults)
+{
+    const uint8_t *at = first_edge(text, h->n);
+    for (size_t i = 0;; i++) {
+        unsigned source, label, target;
+        at = read_known_edge(at, &source, &label, &target);
+        if (faults[source] > faults[target])
+            return refused(FAULT, i);
+    }
+}
+
 static void write_drawn(const uint8_t *text, const struct header *h, uint8_t *room)
 {
     const uint8_t *at = text + LENGTH(OPENING);
@@ -257,8 +290,9 @@ uint64_t plain_from_dot(const uint8_t *text, size_t text_length,
                         uint8_t *room, size_t room_length,
                         uint64_t values[1])
 {
+    uint8_t faults[MOST_STATES];
     struct drawn d;
-    if (!read_drawing(text, text_length, &d))
+    if (!read_drawing(text, text_length, &d, faults))
         return refused(DRAWING, place_outside(text, text_length));
     struct header h = {d.n, d.most_label + 1, 0, d.e};
     if (h.n < 1 || h.n > MOST_STATES || h.m > MOST_LABELS || d.most_colour >= COLOURS)
@@ -267,6 +301,8 @@ uint64_t plain_from_dot(const uint8_t *text, size_t text_length,
         return refused(EDGE_COUNT, 0);
     if (d.bad < 0)
         return first_fault_drawn(text, &h);
+    if (d.leaves)
+        return first_leaving_drawn(text, &h, faults);
     size_t length = bytes_for(file_bits(h.n, h.e));
     if (room_length < length)
         return refused(ANSWER_ROOM, 0);
@@ -322,7 +358,7 @@ static uint64_t test_and_measure(const uint8_t *file, size_t length, const struc
         measure(a, edge);
     }
     COUNT(edges_decoded, e);
-    return all_passed(&passing) ? 0 : first_fault(file, length, h);
+    return verdict(&passing, file, length, h);
 }
 
 static inline uint8_t *put_string(uint8_t *at, const char *string, size_t length)

@@ -43,7 +43,9 @@ enum {
     EDGE_BITS = STATE_BITS + LABEL_BITS + STATE_BITS,
     MOST_STATES = 1 << STATE_BITS,
     MOST_LABELS = 1 << LABEL_BITS,
-    COLOURS = 1 << COLOUR_BITS
+    COLOURS = 1 << COLOUR_BITS,
+    FAULT_COLOUR = 63,
+    HAS_FAULTS = FAULT_COLOUR < COLOURS /* not in pocket files, so that their calls have no test of it */
 };
 
 enum refusal {
@@ -62,7 +64,8 @@ enum refusal {
     OBSERVATION,
     LISTS,
     DRAWING,
-    NOT_POCKET
+    NOT_POCKET,
+    FAULT
 };
 
 static uint64_t refused(enum refusal number, size_t place)
@@ -318,6 +321,76 @@ static void read_colours(const uint8_t *file, size_t length, size_t n, uint8_t *
         for (size_t i = 0; i < now; i++)
             colours[s + i] = (uint8_t)field(bits, COLOUR_BITS * (unsigned)i, COLOUR_BITS);
     }
+}
+
+/* Faults. */
+
+/* A bit for each place of a window where six ones begin. */
+static inline uint64_t six_ones(uint64_t bits)
+{
+    uint64_t two = bits & bits << 1;
+    return two & two << 2 & two << 4;
+}
+
+/* Whether some state has the fault colour: six ones where a colour begins. */
+static inline int has_fault(const uint8_t *file, size_t length, size_t n)
+{
+    enum { TOGETHER = 8, TOGETHER_BITS = 48 }; /* colours in one window */
+    const uint64_t begins = UINT64_C(0x8208208208200000); /* where they begin there */
+    uint64_t found = 0;
+    size_t bit = HEADER_BITS;
+    for (; n > TOGETHER; n -= TOGETHER, bit += TOGETHER_BITS)
+        found |= six_ones(window(file, length, bit));
+    found |= six_ones(window(file, length, bit)) & ~(~UINT64_C(0) >> COLOUR_BITS * n);
+    return (found & begins) != 0;
+}
+
+static inline int leaves_fault(const uint8_t *colours, size_t source, size_t target)
+{
+    return colours[source] == FAULT_COLOUR && colours[target] != FAULT_COLOUR;
+}
+
+/* The first edge, from edge i on, whose source is not below this one. The edges are known to ascend. */
+static size_t seek_source(const uint8_t *file, size_t length, const struct header *h, size_t i, size_t source)
+{
+    size_t end = h->e;
+    while (i < end) {
+        size_t middle = i + (end - i) / 2;
+        if (source_of(read_one(file, length, edges_begin(h->n) + EDGE_BITS * middle)) < source)
+            i = middle + 1;
+        else
+            end = middle;
+    }
+    return i;
+}
+
+/* Refusal 17 of a file whose edges ascend, or 0. Those of one state stand together, and no others are looked at than a fault's. */
+static uint64_t first_leaving(const uint8_t *file, size_t length, const struct header *h)
+{
+    uint8_t colours[MOST_STATES];
+    size_t i = 0;
+    read_colours(file, length, h->n, colours);
+    for (size_t s = 0; s < h->n; s++) {
+        if (colours[s] != FAULT_COLOUR)
+            continue;
+        for (i = seek_source(file, length, h, i, s); i < h->e; i++) {
+            size_t bit = edges_begin(h->n) + EDGE_BITS * i;
+            unsigned edge = read_one(file, length, bit);
+            if (source_of(edge) != s)
+                break;
+            if (colours[target_of(edge)] != FAULT_COLOUR)
+                return refused(FAULT, bit);
+        }
+    }
+    return 0;
+}
+
+/* What the edges of a file that have gone by earn: 7, 8 or 9, then 17, or 0. */
+static inline uint64_t verdict(const struct passing *passing, const uint8_t *file, size_t length, const struct header *h)
+{
+    if (!all_passed(passing))
+        return first_fault(file, length, h);
+    return HAS_FAULTS && has_fault(file, length, h->n) ? first_leaving(file, length, h) : 0;
 }
 
 #endif

@@ -56,6 +56,23 @@ void prepare(struct subject *s, size_t ride)
     make_ride(&s->filter, s->ride, ride, SEED);
 }
 
+static void put_bit(uint8_t *bytes, size_t bit, unsigned value)
+{
+    unsigned shift = 7 - bit % 8;
+    bytes[bit / 8] = (uint8_t)((bytes[bit / 8] & ~(1u << shift)) | value << shift);
+}
+
+void recolour(struct subject *s)
+{
+    enum { COLOURS_BEGIN = 37, COLOUR_BITS = 6 };
+    static struct sketch sketch;
+    for (size_t i = 0; i < COLOUR_BITS * s->filter.n; i++)
+        put_bit(s->forms[LARGE].bytes, COLOURS_BEGIN + i,
+                s->filter.colours[i / COLOUR_BITS] >> (COLOUR_BITS - 1 - i % COLOUR_BITS) & 1);
+    sketch_filter(&sketch, &s->filter);
+    draw(&sketch, &s->forms[DRAWING]);
+}
+
 struct job job_of(const struct subject *s, enum call_number number, size_t observations)
 {
     const struct call *call = &calls[number];
@@ -92,6 +109,8 @@ const struct family families[FAMILIES] = {
     {"16 x 4, a quarter reached", LARGE, make_leftovers, 16, 4},
     {"256 x 64, a quarter reached", LARGE, make_leftovers, 256, 64},
     {"256 x 8, 255 groups in a round", LARGE, make_crowd, 256, 8},
+    {"16 x 4 with a fault state", LARGE, make_fault, 16, 4},
+    {"256 x 64 with a fault state", LARGE, make_fault, 256, 64},
     {"smallest file", POCKET, make_bare, 1, 1},
     {"dense random 2 x 2", POCKET, make_dense, 2, 2},
     {"dense random 4 x 4", POCKET, make_dense, 4, 4},

@@ -45,6 +45,9 @@ struct subject {
 /* Writes the filter that a subject has in every form, and makes a ride of so many observations. */
 void prepare(struct subject *s, size_t ride);
 
+/* Puts the colours that the filter has now into its large file and its drawing, though edges may leave a fault then. */
+void recolour(struct subject *s);
+
 /* The call on the subject, with rooms that are just long enough. */
 struct job job_of(const struct subject *s, enum call_number call, size_t observations);
 
@@ -60,7 +63,7 @@ struct family {
 /* Of the tables on LARGE and on POCKET files. */
 extern const char *const titles[];
 
-enum { FAMILIES = 27 };
+enum { FAMILIES = 29 };
 
 extern const struct family families[FAMILIES];
 extern struct subject subjects[FAMILIES];

@@ -16,7 +16,15 @@
  * The calls whose names begin with pierhollow_pocket_ are for pocket files, to_large and to_pocket make of each file the
  * other, and all others are for large files.
  *
- * Of a file that is refused with 7, 8 or 9 the place is a bit's position: the first bit of the faulty field, counted
+ * Colour 63 tells the driver to shut down, and a fault stays a fault: no edge of a large file leads from a state of colour
+ * 63 to a state of another colour, whether or not the start can reach them. Pocket colours end at 15, so that the pocket
+ * calls and to_large have no such rule.
+ *
+ * Of several refusals the first in this order is given. A file's own: 1 to 6; 7, 8 and 9, where the first faulty edge
+ * decides; and only where every edge has passed these, 17. Behind them 15 of to_dot or 16 of to_pocket; then 10 to 13, as
+ * the call has them. pack: 14, 2, 3, then 7, 8 and 9, then 17, then 10. from_dot: 15, then those of pack.
+ *
+ * Of a file that is refused with 7, 8, 9 or 17 the place is a bit's position: the first bit of the faulty field, counted
  * from 0, from the first byte on and within a byte from the highest bit. Byte place / 8 has it, place % 8 bits from
  * the left; a source or target has 8 bits, a label 6, in a pocket file 4 and 3. Both packs and from_dot, which have no
  * bits, give the edge's index, counted from 0.
@@ -62,7 +70,9 @@ enum pierhollow_refusal {
     PIERHOLLOW_DRAWING = 15,     /* from_dot: text outside the profile; place: the length of the text's longest beginning that some
                                     text of the profile also has; to_dot: start is not 0, or m not the largest label plus one
                                     (without edges: not 1) */
-    PIERHOLLOW_POCKET = 16       /* to_pocket: n above 16, m above 8, or a colour above 15 */
+    PIERHOLLOW_POCKET = 16,      /* to_pocket: n above 16, m above 8, or a colour above 15 */
+    PIERHOLLOW_FAULT = 17        /* an edge leads from a state of colour 63 to a state of another colour; place: the first such
+                                    edge's source */
 };
 
 /* The refusal's number in what a call returned; 0 for accepted. */
@@ -82,6 +92,9 @@ static inline uint64_t pierhollow_place(uint64_t returned)
 #define PIERHOLLOW_LONGEST_DRAWING 371230
 #define PIERHOLLOW_MOST_STATES 256
 #define PIERHOLLOW_MOST_LABELS 64
+
+/* The colour that tells the driver to shut down: no edge of a large file leads from it to another. */
+#define PIERHOLLOW_FAULT_COLOUR 63
 
 /* The longest pocket file in bytes, and the most states and labels that it has. */
 #define PIERHOLLOW_POCKET_LONGEST_FILE 187
@@ -132,7 +145,7 @@ uint64_t pierhollow_trace(const uint8_t *file, size_t file_length,
  * Reduces a large file: writes the reduced file, which is never longer than the original, and the new number of each of
  * the n states. States that the start cannot reach take no part: they keep no other states apart, the reduced file has
  * neither them nor their edges, and their new number is PIERHOLLOW_DROPPED. They count for the rooms: the answer room has as
- * many bytes as the file or more, the class list n entries or more.
+ * many bytes as the file or more, the class list n entries or more. In the reduced file too a fault stays a fault.
  * values: 0 reduced states, 1 distinct colours of the states that can be reached, 2 rounds, 3 the reduced file's length in
  * bytes.
  */
@@ -178,8 +191,8 @@ uint64_t pierhollow_to_large(const uint8_t *file, size_t file_length,
                              uint64_t values[1]);
 
 /*
- * Writes the pocket file of a large file's filter; to_large gives the large file back. Refusals: the file's own, then 16
- * with place 0, then 10.
+ * Writes the pocket file of a large file's filter; to_large gives the large file back. Refusals: the file's own, 17 among
+ * them, then 16 with place 0, then 10.
  * values: 0 the pocket file's length in bytes.
  */
 uint64_t pierhollow_to_pocket(const uint8_t *file, size_t file_length,
@@ -194,7 +207,8 @@ uint64_t pierhollow_to_pocket(const uint8_t *file, size_t file_length,
  */
 
 /*
- * Writes the file of a drawing. Refusals: 15, then those of pack: 14, 3, then 7, 8 and 9 with the edge's index, then 10.
+ * Writes the file of a drawing. Refusals: 15, then those of pack: 14, 3, then 7, 8 and 9 with the edge's index, then 17 with
+ * the edge's index, then 10.
  * values: 0 the file's length in bytes.
  */
 uint64_t pierhollow_from_dot(const uint8_t *text, size_t text_length,
@@ -202,8 +216,8 @@ uint64_t pierhollow_from_dot(const uint8_t *text, size_t text_length,
                              uint64_t values[1]);
 
 /*
- * Writes the drawing of a file, edges in file order; from_dot gives the file back. Refusals: the file's own, then 15 with
- * place 0, then 10.
+ * Writes the drawing of a file, edges in file order; from_dot gives the file back. Refusals: the file's own, 17 among them,
+ * then 15 with place 0, then 10.
  * values: 0 the drawing's length in bytes.
  */
 uint64_t pierhollow_to_dot(const uint8_t *file, size_t file_length,

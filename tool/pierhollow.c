@@ -10,7 +10,7 @@
 
 enum status { ACCEPTED = 0, REFUSED = 1, FAILED = 2 };
 
-static const char version[] = "pierhollow 5\n";
+static const char version[] = "pierhollow 6\n";
 
 static const char help[] =
     "Usage: pierhollow COMMAND [--pocket] [-o FILE] [FILE]\n"

@@ -1,7 +1,7 @@
 //! The library's calls: a number, a place, the counts, and the rooms that were lent.
 
 use crate::dot::{self, can_be_drawn, labels_up_to};
-use crate::file::{judge_list, read, write, Edge, Filter, Refusal};
+use crate::file::{judge_list, judge_ways_out_of_list, read, write, Edge, Filter, Refusal};
 use crate::profile::{Profile, LARGE, POCKET};
 use crate::{reduce, trace};
 
@@ -174,7 +174,8 @@ fn sizes(filter: &Filter) -> [u64; 4] {
     [filter.n(), filter.m, filter.start, filter.e()]
 }
 
-fn from_lists(colours: &[u8], edges: &[u8], m: u64, start: u64) -> Result<Filter, Refusal> {
+/// What is asked of pack, which is still to be judged.
+pub fn from_lists(colours: &[u8], edges: &[u8], m: u64, start: u64) -> Result<Filter, Refusal> {
     let left_over = edges.len() % 3;
     if left_over != 0 {
         return Err(Refusal::new(14));
@@ -195,7 +196,8 @@ fn from_lists(colours: &[u8], edges: &[u8], m: u64, start: u64) -> Result<Filter
     })
 }
 
-fn from_text(text: &[u8]) -> Result<Filter, Refusal> {
+/// What a text draws, which is still to be judged as well.
+pub fn from_text(text: &[u8]) -> Result<Filter, Refusal> {
     let drawing = dot::read(text).map_err(|place| Refusal {
         number: 15,
         place: place as u64,
@@ -221,5 +223,6 @@ fn judged(profile: Profile, filter: Filter) -> Result<Filter, Refusal> {
         return Err(Refusal::new(3));
     }
     judge_list(&filter.edges, n, m)?;
+    judge_ways_out_of_list(&filter)?;
     Ok(filter)
 }

@@ -42,8 +42,8 @@ impl Call {
     }
 
     /// The numbers that the call can answer with, 0 for accepted.
-    pub fn numbers(self) -> &'static [u8] {
-        match self {
+    pub fn numbers(self) -> Vec<u8> {
+        let of_either_file: &[u8] = match self {
             Call::Check(_) => &[0, 1, 2, 3, 4, 5, 6, 7, 8, 9],
             Call::Unpack(_) => &[0, 1, 2, 3, 4, 5, 6, 7, 8, 9, 12],
             Call::Pack(_) => &[0, 14, 2, 3, 7, 8, 9, 10],
@@ -53,7 +53,14 @@ impl Call {
             Call::ToDot => &[0, 1, 2, 3, 4, 5, 6, 7, 8, 9, 15, 10],
             Call::ToLarge => &[0, 1, 2, 3, 4, 5, 6, 7, 8, 9, 10],
             Call::ToPocket => &[0, 1, 2, 3, 4, 5, 6, 7, 8, 9, 16, 10],
-        }
+        };
+        let of_the_fault: &[u8] = if self.meets_the_fault() { &[17] } else { &[] };
+        [of_either_file, of_the_fault].concat()
+    }
+
+    /// Whether it takes the colours of a large file, of which the highest is the fault.
+    pub fn meets_the_fault(self) -> bool {
+        self.reads() == Some(LARGE) || [Call::Pack(LARGE), Call::FromDot].contains(&self)
     }
 
     /// The kind of file that it reads, if it reads one.

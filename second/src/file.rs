@@ -3,8 +3,8 @@
 use crate::bits::{bytes_of, push, Bits};
 use crate::profile::{Profile, LARGE};
 
-/// Why a call says no. Only 7, 8 and 9, trace's 13 and the 15 of a text have a place other than 0. That of 7, 8 and 9 is
-/// a bit of the file, or the edge's index where there is no file yet.
+/// Why a call says no. Only 7, 8, 9 and 17, trace's 13 and the 15 of a text have a place other than 0. That of 7, 8, 9 and 17
+/// is a bit of the file, or the edge's index where there is no file yet.
 #[derive(Clone, Copy, Debug, PartialEq, Eq)]
 pub struct Refusal {
     pub number: u8,
@@ -24,6 +24,10 @@ pub struct Edge {
     pub target: u64,
 }
 
+/// The colour that tells the driver to shut down, which no edge may leave for another: document 02's sixth wish. It is the
+/// highest of a large file; a pocket file has none so high.
+pub const FAULT: u64 = 63;
+
 /// What a file holds. Nothing here keeps it in bounds: the generator also writes filters that must be refused.
 #[derive(Clone, Debug, PartialEq, Eq)]
 pub struct Filter {
@@ -40,6 +44,20 @@ impl Filter {
 
     pub fn e(&self) -> u64 {
         self.edges.len() as u64
+    }
+
+    /// Its colour list and its edge list, as pack takes them. What does not fit in a byte is cut down.
+    pub fn lists(&self) -> (Vec<u8>, Vec<u8>) {
+        let colours = self.colours.iter().map(|&colour| colour as u8);
+        let edge = |edge: &Edge| [edge.source, edge.label, edge.target].map(|value| value as u8);
+        let edges = self.edges.iter().flat_map(edge);
+        (colours.collect(), edges.collect())
+    }
+
+    /// Whether an edge leads from the fault to another colour. Its ends have to be states.
+    pub fn is_way_out(&self, edge: &Edge) -> bool {
+        let [from, to] = [edge.source, edge.target].map(|state| self.colours[state as usize]);
+        from == FAULT && to != FAULT
     }
 }
 
@@ -70,6 +88,15 @@ impl Profile {
 
     /// Reads a file, or says why not.
     pub fn read(self, bytes: &[u8]) -> Result<Filter, Refusal> {
+        let (filter, places) = self.unjudged(bytes)?;
+        judge_edges(&filter.edges, &places, filter.n(), filter.m)?;
+        judge_ways_out(&filter, &places)?;
+        Ok(filter)
+    }
+
+    /// What a file of the right length says, and the places of each edge's source, label and target, or why it is none: all
+    /// that comes before the edges are judged.
+    pub fn unjudged(self, bytes: &[u8]) -> Result<(Filter, Vec<[u64; 3]>), Refusal> {
         if bytes.len() < self.header_bytes() {
             return Err(Refusal::new(1));
         }
@@ -113,13 +140,13 @@ impl Profile {
         if bits.rest().contains(&true) {
             return Err(Refusal::new(6));
         }
-        judge_edges(&edges, &places, n, m)?;
-        Ok(Filter {
+        let filter = Filter {
             colours,
             m,
             start,
             edges,
-        })
+        };
+        Ok((filter, places))
     }
 
     /// Writes the fields as they are; it judges nothing.
@@ -168,10 +195,18 @@ pub fn write(filter: &Filter) -> Vec<u8> {
     LARGE.write(filter)
 }
 
-/// Of edges that stand in a list: a fault's place is the edge's index.
+/// Of edges that stand in a list, where the place is the edge's index: 7, 8 and 9.
 pub fn judge_list(edges: &[Edge], n: u64, m: u64) -> Result<(), Refusal> {
-    let places: Vec<[u64; 3]> = (0..edges.len() as u64).map(|index| [index; 3]).collect();
-    judge_edges(edges, &places, n, m)
+    judge_edges(edges, &indices(edges), n, m)
+}
+
+/// The same for 17, of edges that have none of the others.
+pub fn judge_ways_out_of_list(filter: &Filter) -> Result<(), Refusal> {
+    judge_ways_out(filter, &indices(&filter.edges))
+}
+
+fn indices(edges: &[Edge]) -> Vec<[u64; 3]> {
+    (0..edges.len() as u64).map(|index| [index; 3]).collect()
 }
 
 /// The first faulty edge decides, and within it 7, 8, 9. Each edge comes with the places of its source, label and target:
@@ -197,6 +232,19 @@ fn judge_edges(edges: &[Edge], places: &[[u64; 3]], n: u64, m: u64) -> Result<()
             return fault(9, 0);
         }
         before = own;
+    }
+    Ok(())
+}
+
+/// The first edge out of the fault decides, wherever the start leads.
+fn judge_ways_out(filter: &Filter, places: &[[u64; 3]]) -> Result<(), Refusal> {
+    for (edge, place) in filter.edges.iter().zip(places) {
+        if filter.is_way_out(edge) {
+            return Err(Refusal {
+                number: 17,
+                place: place[0],
+            });
+        }
     }
     Ok(())
 }

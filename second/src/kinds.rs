@@ -1,9 +1,9 @@
 //! The kinds of outcome that a run has to hit, so that none is left to luck.
 
-use crate::call::DROPPED;
+use crate::call::{from_lists, from_text, Answer, DROPPED};
 use crate::case::{entries_of, Call, Case, Outcome};
 use crate::dot::{self, labels_up_to, Drawing};
-use crate::file::{read, Filter, Header};
+use crate::file::{read, write, Edge, Filter, Header, FAULT};
 use crate::make::groups::many_groups;
 use crate::profile::{Profile, POCKET};
 use crate::reach::reached;
@@ -71,6 +71,19 @@ pub enum Kind {
     OfALeftover,
     /// In no room at all.
     WithoutRoom,
+    /// A 17 by the only edge out of the fault, by the first of several, and by one that the start does not lead to.
+    OnlyWayOut,
+    FirstWayOut,
+    WayOutOfALeftover,
+    /// A 17 where this would come otherwise.
+    InsteadOf(u8),
+    /// A 7, 8 or 9 though some edge before it leads out of the fault, or some edge behind it.
+    BehindAWayOut(u8),
+    BeforeAWayOut(u8),
+    /// Accepted with an edge into the fault, with one within it, and with edges but no other colour.
+    IntoTheFault,
+    WithinTheFault,
+    TheFaultAlone,
 }
 
 /// The kinds that were hit, by call.
@@ -165,6 +178,9 @@ pub fn all_of(call: Call) -> Vec<Kind> {
     if held_by(call).is_some() {
         all.push(Kind::Largest);
     }
+    if call.meets_the_fault() {
+        all.extend(all_of_the_fault(call));
+    }
     all.extend(match call {
         Call::Check(_) | Call::Unpack(_) | Call::Pack(_) | Call::ToLarge => Vec::new(),
         Call::Trace(_) => all_of_trace(),
@@ -174,6 +190,39 @@ pub fn all_of(call: Call) -> Vec<Kind> {
         Call::ToPocket => all_of_too_large(),
     });
     all
+}
+
+fn all_of_the_fault(call: Call) -> Vec<Kind> {
+    let mut all = vec![Kind::OnlyWayOut, Kind::FirstWayOut, Kind::WayOutOfALeftover];
+    all.extend(Where::ALL.map(|place| Kind::At(17, place)));
+    all.extend(behind_17(call).iter().copied().map(Kind::InsteadOf));
+    for number in 7..=9 {
+        all.extend([Kind::BehindAWayOut(number), Kind::BeforeAWayOut(number)]);
+    }
+    // No pocket file has such a colour.
+    if call != Call::ToPocket {
+        all.extend([
+            Kind::IntoTheFault,
+            Kind::WithinTheFault,
+            Kind::TheFaultAlone,
+        ]);
+    }
+    all
+}
+
+/// What can come instead of 17, since it is tested behind it; or 0.
+fn behind_17(call: Call) -> &'static [u8] {
+    match call {
+        Call::Check(_) => &[0],
+        Call::Unpack(_) => &[0, 12],
+        Call::Pack(_) | Call::FromDot => &[0, 10],
+        Call::Trace(_) => &[0, 12, 13],
+        Call::Reduce(_) => &[0, 10, 11],
+        Call::ToDot => &[0, 15, 10],
+        // The fault is too high a colour, and 10 comes behind that.
+        Call::ToPocket => &[16],
+        Call::ToLarge => &[],
+    }
 }
 
 fn all_of_trace() -> Vec<Kind> {
@@ -239,7 +288,7 @@ fn all_of_too_large() -> Vec<Kind> {
 pub fn of(case: &Case, outcome: &Outcome) -> Vec<Kind> {
     let answer = outcome.answer;
     let mut kinds = vec![Kind::Number(answer.number)];
-    if (7..=9).contains(&answer.number) {
+    if [7, 8, 9, 17].contains(&answer.number) {
         let (edge, field) = faulty_field(case, answer.place);
         let place = Where::of(edge, edges_of(case));
         kinds.push(Kind::At(answer.number, place));
@@ -249,6 +298,9 @@ pub fn of(case: &Case, outcome: &Outcome) -> Vec<Kind> {
     }
     if answer.number == 0 && is_largest(case) {
         kinds.push(Kind::Largest);
+    }
+    if case.call.meets_the_fault() {
+        kinds.extend(of_the_fault(case, answer));
     }
     match case.call {
         Call::Trace(_) => kinds.extend(of_trace(case, outcome)),
@@ -309,6 +361,94 @@ fn is_largest(case: &Case) -> bool {
             sizes == most && case.a.contains(&(top as u8))
         }
     }
+}
+
+/// The filter that a call was given, where nothing but its edges can be wrong with it.
+pub fn filter_of(case: &Case) -> Filter {
+    let filter = match (case.call, case.call.reads()) {
+        (_, Some(profile)) => profile.unjudged(&case.a).map(|(filter, _)| filter),
+        (Call::FromDot, None) => from_text(&case.a),
+        (_, None) => from_lists(&case.a, &case.b, case.first, case.second),
+    };
+    filter.expect("what is accepted, or refused for an edge")
+}
+
+fn of_the_fault(case: &Case, answer: Answer) -> Vec<Kind> {
+    match answer.number {
+        0 => of_kept(&filter_of(case)),
+        7..=9 => {
+            let (edge, _) = faulty_field(case, answer.place);
+            beside_ways_out(&filter_of(case), answer.number, edge as usize)
+        }
+        17 => of_left(case, &filter_of(case)),
+        _ => Vec::new(),
+    }
+}
+
+/// Of a filter that was accepted.
+fn of_kept(filter: &Filter) -> Vec<Kind> {
+    let is_fault = |state: u64| filter.colours[state as usize] == FAULT;
+    let leads = |from: bool, to: bool| {
+        let ends = |edge: &Edge| (is_fault(edge.source), is_fault(edge.target)) == (from, to);
+        filter.edges.iter().any(ends)
+    };
+    those([
+        (Kind::IntoTheFault, leads(false, true)),
+        (Kind::WithinTheFault, leads(true, true)),
+        (
+            Kind::TheFaultAlone,
+            filter.e() > 0 && (0..filter.n()).all(is_fault),
+        ),
+    ])
+}
+
+/// Of a call that was refused with 17.
+fn of_left(case: &Case, filter: &Filter) -> Vec<Kind> {
+    let ways_out: Vec<&Edge> = (filter.edges.iter())
+        .filter(|edge| filter.is_way_out(edge))
+        .collect();
+    let left_over = !reached(filter).contains(&ways_out[0].source);
+    let mut kinds = those([
+        (Kind::OnlyWayOut, ways_out.len() == 1),
+        (Kind::FirstWayOut, ways_out.len() > 1),
+        (Kind::WayOutOfALeftover, left_over),
+    ]);
+    let otherwise = without_the_fault(case, filter).outcome().answer.number;
+    kinds.push(Kind::InsteadOf(otherwise));
+    kinds
+}
+
+/// The same call for a filter that has the next lower colour for the fault.
+pub fn without_the_fault(case: &Case, filter: &Filter) -> Case {
+    let lower = |&colour: &u64| if colour == FAULT { FAULT - 1 } else { colour };
+    let filter = Filter {
+        colours: filter.colours.iter().map(lower).collect(),
+        ..filter.clone()
+    };
+    let a = match case.call {
+        Call::Pack(_) => filter.lists().0,
+        Call::FromDot => dot::write(&filter.colours, &filter.edges).into_bytes(),
+        _ => write(&filter),
+    };
+    Case { a, ..case.clone() }
+}
+
+/// Of a call that was refused with 7, 8 or 9 for this edge.
+fn beside_ways_out(filter: &Filter, number: u8, edge: usize) -> Vec<Kind> {
+    // The ends of an edge that is not tested may be no states.
+    let leads_out =
+        |edge: &Edge| edge.source.max(edge.target) < filter.n() && filter.is_way_out(edge);
+    let (before, behind) = (&filter.edges[..edge], &filter.edges[edge + 1..]);
+    those([
+        (Kind::BehindAWayOut(number), before.iter().any(leads_out)),
+        (Kind::BeforeAWayOut(number), behind.iter().any(leads_out)),
+    ])
+}
+
+/// Those that hold.
+fn those<const COUNT: usize>(kinds: [(Kind, bool); COUNT]) -> Vec<Kind> {
+    let hold = kinds.into_iter().filter(|&(_, holds)| holds);
+    hold.map(|(kind, _)| kind).collect()
 }
 
 fn of_trace(case: &Case, outcome: &Outcome) -> Option<Kind> {
@@ -379,15 +519,13 @@ fn of_dropped(states: &[bool]) -> Vec<Kind> {
     let (Some(first), Some(last)) = (first, last) else {
         return Vec::new();
     };
-    let kinds = [
+    those([
         (Kind::NothingDropped, !states.contains(&true)),
         (Kind::DroppedBefore, first > 0),
         (Kind::DroppedBetween, states[first..last].contains(&true)),
         (Kind::DroppedBehind, last + 1 < states.len()),
         (Kind::AllButOneDropped, first == last && states.len() > 1),
-    ];
-    let hold = kinds.into_iter().filter(|&(_, holds)| holds);
-    hold.map(|(kind, _)| kind).collect()
+    ])
 }
 
 fn of_text(case: &Case, outcome: &Outcome) -> Option<Kind> {

@@ -72,6 +72,7 @@ pub mod texts;
 pub mod three_bytes;
 pub mod traces;
 pub mod unpacks;
+pub mod ways_out;
 
 /// A case and the name of the family that made it.
 pub struct Made {

@@ -1,5 +1,6 @@
 //! Document 01's rides: the files and lists byte for byte, and the filters of which it gives no bytes; two of the files as
-//! document 02 has them drawn, and three as pocket files. Then two filters for one of the errors that look right.
+//! document 02 has them drawn, three as pocket files, and one with a fault. Then two filters for one of the errors that look
+//! right.
 
 use crate::file::{Edge, Filter};
 
@@ -25,6 +26,17 @@ pub const K_REDUCED: &[u8] = &[
 pub const C_POCKET: &[u8] = &[0; 3];
 pub const K_POCKET: &[u8] = &[0x22, 0x00, 0x80, 0x22, 0x00, 0x40, 0x90, 0x80, 0x22, 0x00];
 pub const K_REDUCED_POCKET: &[u8] = &[0x12, 0x00, 0x80, 0x20, 0x04, 0x08, 0x88, 0x01, 0x20];
+
+/// K with a fault for its state 1, once left by edge 2, and once kept by an edge 2 that leads to state 1: docs/FORMAT.md has both,
+/// and tests/faults.rs writes them out by hand.
+pub const K_LEFT: &[u8] = &[
+    0x02, 0x04, 0x00, 0x00, 0x20, 0x1f, 0x82, 0x00, 0x00, 0x08, 0x00, 0x20, 0x40, 0x20, 0x00, 0x01,
+    0x02, 0x00,
+];
+pub const K_KEPT: &[u8] = &[
+    0x02, 0x04, 0x00, 0x00, 0x20, 0x1f, 0x82, 0x00, 0x00, 0x08, 0x00, 0x20, 0x40, 0x20, 0x00, 0x81,
+    0x02, 0x00,
+];
 
 /// P itself is given by colours and edges; document 02 makes one state of it, with the edge of state 0.
 pub const P: &[u8] = &[

@@ -1,9 +1,11 @@
 //! The batch that is stored beside `answers`: small, and the same in every run.
 
 use crate::case::Case;
+use crate::dot;
 use crate::file::{read, Filter};
 use crate::make::chains;
 use crate::make::conversions::{conversion, other};
+use crate::make::filters::turn_back;
 use crate::profile::{Profile, LARGE, POCKET, PROFILES};
 use crate::rides::*;
 
@@ -13,6 +15,7 @@ pub fn cases() -> Vec<Case> {
         let calls = Calls { profile };
         cases.extend(calls.of_k());
         cases.extend(calls.of_refused_files());
+        cases.extend(calls.of_the_highest_colour());
         cases.extend(calls.refused_by_pack());
         cases.extend(calls.traces());
         cases.extend(calls.rooms_of_a_reduction());
@@ -21,6 +24,7 @@ pub fn cases() -> Vec<Case> {
         cases.extend(calls.conversions());
     }
     cases.extend(too_large());
+    cases.extend(out_of_the_fault());
     cases.extend(drawings());
     cases.extend(texts_outside());
     cases.extend(texts_refused_by_pack());
@@ -48,6 +52,13 @@ fn k_with(edges: &[[u64; 3]]) -> Filter {
         m: 2,
         start: 0,
         edges: edges.iter().map(edge).collect(),
+    }
+}
+
+fn coloured(filter: &Filter, colours: [u64; 3]) -> Filter {
+    Filter {
+        colours: colours.to_vec(),
+        ..filter.clone()
     }
 }
 
@@ -142,15 +153,43 @@ impl Calls {
     }
 
     fn of_refused_files(&self) -> Vec<Case> {
+        let files = self.refused();
+        let cases = files.iter().map(|file| self.of_file(file, K_DRAWN.len()));
+        cases.collect::<Vec<_>>().concat()
+    }
+
+    /// Put to each call that reads such a file, with room enough for K and so much for a drawing.
+    fn of_file(&self, file: &[u8], drawing: usize) -> Vec<Case> {
+        let mut cases = vec![
+            self.check(file),
+            self.unpack(file, 3, 12),
+            self.trace(file, K_OBSERVATIONS, 3),
+            self.reduce(file, file.len(), 6),
+            self.convert(file, 20),
+        ];
+        if self.profile == LARGE {
+            cases.push(to_dot(file, drawing));
+        }
+        cases
+    }
+
+    /// K with the highest colour, which its first edge leaves, and P, in which a leftover leaves it; then K with no other colour.
+    /// In pocket files none of them is refused.
+    fn of_the_highest_colour(&self) -> Vec<Case> {
+        let top = self.profile.top_colour();
+        let k = read(K).expect("accepted");
         let mut cases = Vec::new();
-        for file in self.refused() {
-            cases.push(self.check(&file));
-            cases.push(self.unpack(&file, 3, 12));
-            cases.push(self.trace(&file, K_OBSERVATIONS, 3));
-            cases.push(self.reduce(&file, file.len(), 6));
-            cases.push(self.convert(&file, 20));
+        for filter in [
+            coloured(&k, [top, 1, 1]),
+            coloured(&ride_p(), [0, top, 1]),
+            coloured(&k, [top; 3]),
+        ] {
+            let text = dot::write(&filter.colours, &filter.edges);
+            cases.extend(self.of_file(&self.profile.write(&filter), text.len()));
+            let (colours, edges) = filter.lists();
+            cases.push(self.pack(&colours, &edges, filter.m, filter.start, 20));
             if self.profile == LARGE {
-                cases.push(to_dot(&file, K_DRAWN.len()));
+                cases.push(from_dot(&text, 20));
             }
         }
         cases
@@ -376,7 +415,9 @@ impl Calls {
 
     fn largest(&self) -> Filter {
         let (most, labels) = (self.profile.most_states(), self.profile.most_labels());
-        self.regular(most, labels, most * labels)
+        let mut largest = self.regular(most, labels, most * labels);
+        turn_back(&mut largest);
+        largest
     }
 
     /// The rides and the largest that either file holds, in rooms that are exact, longer, short by one and empty.
@@ -424,6 +465,55 @@ fn too_large() -> Vec<Case> {
         for room in [40, 0] {
             cases.push(calls.convert(&LARGE.write(&filter), room));
         }
+    }
+    cases
+}
+
+/// K with a fault for state 1, which edge 2 leaves. 17 comes before the rooms, a label outside and what cannot be drawn, and
+/// behind 7, 8 and 9 of another edge, be it behind the one that leaves or before it, and behind 14, 2 and 3.
+fn out_of_the_fault() -> Vec<Case> {
+    let calls = Calls { profile: LARGE };
+    let left = |edges: &[[u64; 3]]| coloured(&k_with(edges), [0, 63, 1]);
+    let k = left(&[[0, 0, 1], [0, 1, 2], [1, 0, 0], [2, 1, 0]]);
+    let file = LARGE.write(&k);
+    let from_2 = LARGE.write(&Filter {
+        start: 2,
+        ..k.clone()
+    });
+    let (colours, edges) = k.lists();
+    let text = dot::write(&k.colours, &k.edges);
+    let mut cases = vec![
+        calls.unpack(&file, 2, 12),
+        calls.unpack(&file, 3, 11),
+        calls.trace(&file, R_OBSERVATIONS, 3),
+        calls.trace(&file, R_OBSERVATIONS, 2),
+        calls.reduce(&file, 17, 6),
+        calls.reduce(&file, 18, 4),
+        calls.reduce(&file, 0, 0),
+        calls.convert(&file, 0),
+        to_dot(&file, 0),
+        to_dot(&from_2, text.len()),
+        calls.pack(&colours, &edges, 2, 0, 0),
+        from_dot(&text, 0),
+        calls.pack(&[0, 63, 64], &edges, 2, 0, 18),
+        calls.pack(&colours, &edges, 2, 3, 18),
+        calls.pack(&colours, &edges, 1, 0, 18),
+    ];
+    for edges in [
+        [[0, 0, 1], [0, 1, 2], [1, 0, 0], [2, 1, 3]],
+        [[0, 0, 1], [0, 1, 2], [1, 0, 0], [0, 1, 0]],
+        [[0, 0, 1], [0, 1, 2], [1, 0, 0], [1, 0, 1]],
+        [[0, 0, 3], [0, 1, 2], [1, 0, 0], [2, 1, 0]],
+        [[0, 1, 1], [0, 0, 2], [1, 0, 0], [2, 1, 0]],
+        [[0, 0, 1], [0, 0, 2], [1, 0, 0], [2, 1, 0]],
+    ] {
+        let filter = left(&edges);
+        let (colours, edges) = filter.lists();
+        cases.extend([
+            calls.check(&LARGE.write(&filter)),
+            calls.pack(&colours, &edges, 2, 0, 18),
+            from_dot(&dot::write(&filter.colours, &filter.edges), 18),
+        ]);
     }
     cases
 }

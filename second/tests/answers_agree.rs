@@ -37,10 +37,13 @@ enum Counted {
     ConvertedFrom(Profile),
     /// Large files of filters that no pocket file holds.
     TooLarge,
+    /// Large files with an edge that leaves the fault, and those that are accepted with edges into it and within it.
+    Left,
+    Kept,
 }
 
 /// Each with the least number of them.
-const LEAST: [(Counted, usize); 17] = [
+const LEAST: [(Counted, usize); 19] = [
     (Counted::Files(LARGE), 100_000),
     (Counted::Files(POCKET), 50_000),
     (Counted::Rides(LARGE), 100_000),
@@ -58,6 +61,8 @@ const LEAST: [(Counted, usize); 17] = [
     (Counted::ConvertedFrom(LARGE), 4_000),
     (Counted::ConvertedFrom(POCKET), 10_000),
     (Counted::TooLarge, 10_000),
+    (Counted::Left, 3_000),
+    (Counted::Kept, 2_000),
 ];
 
 /// One in so many reductions or more has states that are dropped.
@@ -93,6 +98,11 @@ fn counted(case: &Case, outcome: &Outcome, kinds: &[Kind]) -> Vec<Counted> {
         Call::Check(profile) => vec![
             (Counted::Files(profile), true),
             (Counted::Largest(profile), kinds.contains(&Kind::Largest)),
+            (Counted::Left, number == 17),
+            (
+                Counted::Kept,
+                kinds.contains(&Kind::IntoTheFault) && kinds.contains(&Kind::WithinTheFault),
+            ),
         ],
         Call::Trace(profile) => vec![(Counted::Rides(profile), [0, 12, 13].contains(&number))],
         Call::Reduce(profile) if number == 0 => {

@@ -221,28 +221,57 @@ fn the_pocket_files_are_reduced_to_those_beside_them() {
     assert!(reduced > 0, "no pocket file with its reduced one");
 }
 
-/// docs/FORMAT.md looks for a fault of K in a hex viewer: one bit of K is changed, and check names the place.
-#[test]
-fn the_document_on_the_file_finds_the_fault() {
-    let document = fs::read_to_string(examples().join("../docs/FORMAT.md")).expect("the document");
-    let mut faulty = K.to_vec();
-    faulty[13] ^= 1;
+/// As `xxd -g 1` shows a file, without the letters.
+fn in_a_hex_viewer(file: &[u8]) -> String {
     let mut shown = String::new();
-    for (nth, line) in faulty.chunks(16).enumerate() {
+    for (nth, line) in file.chunks(16).enumerate() {
         let bytes: Vec<String> = line.iter().map(|byte| format!("{byte:02x}")).collect();
         shown += &format!("    {:08x}: {}\n", 16 * nth, bytes.join(" "));
     }
-    assert!(document.contains(&shown), "{shown} is not shown");
-    let answer = check(&faulty);
-    assert_eq!((answer.number, answer.place), (7, 107));
-    for told in [
+    shown
+}
+
+/// docs/FORMAT.md looks for two edges at fault in a hex viewer: one bit of K is changed, or one state is a fault, which is then
+/// changed again; and check names the places.
+#[test]
+fn the_document_on_the_file_finds_the_faults() {
+    let document = fs::read_to_string(examples().join("../docs/FORMAT.md")).expect("the document");
+    let told = |parts: &[&str]| {
+        for part in parts {
+            assert!(document.contains(part), "{part} is not told");
+        }
+    };
+    let but = |file: &[u8], at: usize, byte: u8| {
+        let mut file = file.to_vec();
+        file[at] = byte;
+        let answer = check(&file);
+        (answer.number, answer.place, file)
+    };
+    let (number, place, faulty) = but(K, 13, 0x21);
+    assert_eq!((number, place), (7, 107));
+    told(&[
+        &in_a_hex_viewer(&faulty),
         "refused with 7 at 107",
         "107 = 13 · 8 + 3",
         "`21 00`",
         "    refused 7 107: bit 107 is byte 13, bit 3, the label of edge 2 (all from 0, bits from the left): it is no label of the filter\n",
-    ] {
-        assert!(document.contains(told), "{told} is not told");
+    ]);
+    let answer = check(K_LEFT);
+    assert_eq!((answer.number, answer.place), (17, 99));
+    told(&[
+        &in_a_hex_viewer(K_LEFT),
+        "refused with 17 at 99",
+        "99 = 12 · 8 + 3",
+        "    byte 12    byte 13    byte 14    byte 15\n    010·00000  001·00000  0·0000000  0·0000001\n",
+        "    byte 4     byte 5     byte 6\n    00100·000  000·11111  1·000001·0\n",
+        "    refused 17 99: bit 99 is byte 12, bit 3, the source of edge 2 (all from 0, bits from the left): the edge leaves a fault: it leads from a state of colour 63 to a state of another colour\n",
+    ]);
+    for (at, byte, number, place) in [(15, 0x81, 0, 0), (6, 0x02, 0, 0), (16, 0x04, 7, 129)] {
+        let answer = but(K_LEFT, at, byte);
+        assert_eq!((answer.0, answer.1), (number, place));
+        told(&[&format!("- With `{byte:02x}` in byte {at}, ")]);
     }
+    told(&["refused with 7 at 129"]);
 }
 
 /// docs/DRAWING.md has K's drawing whole, and places that it works out by hand.
@@ -262,13 +291,24 @@ fn the_document_on_drawings_says_what_comes() {
         (k.replace("0 -> 2 ", "0 -> 3 "), 7, 1),
         (k.replace("0 -> 2 ", "0 -> 999 "), 7, 1),
         (k.replace("2 [label=1];\n1", "2 [label=0];\n1"), 9, 1),
+        (k.replace("0 [label=0];", "0 [label=63];"), 17, 0),
         ("digraph {\n}\n".to_string(), 14, 0),
     ] {
         let answer = from_dot(text.as_bytes(), &mut [0; 18]);
         assert_eq!((answer.number, answer.place), (number, place), "{text}");
         let told = format!("{number} at {place}");
-        assert!(place == 0 || document.contains(&told), "{told} is not told");
+        let is_told = number == 14 || document.contains(&told);
+        assert!(is_told, "{told} is not told");
     }
+    let mut faults = k;
+    for (line, fault) in [
+        ("0 [label=0];", "0 [label=63];"),
+        ("1 [label=1];", "1 [label=63];"),
+        ("2 [label=1];", "2 [label=63];"),
+    ] {
+        faults = faults.replace(line, fault);
+    }
+    assert_eq!(from_dot(faults.as_bytes(), &mut [0; 18]).number, 0);
 }
 
 /// A picture has a filter of so many states or fewer.

@@ -2,17 +2,19 @@
 
 use second::bits::free_bits;
 use second::case::{Call, Case};
-use second::file::Filter;
+use second::file::{Edge, Filter};
 use second::kinds::{self, many_rounds, Seen};
 use second::make::chains::{chains, lengths, rounds};
 use second::make::damage::{
     one_faulty_edge, several_faults_in_an_edge, two_faulty_edges, Damage, Tops, TOGETHER,
 };
-use second::make::draft::Draft;
+use second::make::draft::{faults, Draft};
 use second::make::filters::shapes;
 use second::make::rooms::Room;
+use second::make::texts::{drawable, text_of};
 use second::make::{
     contents, conversions, drawings, files, leftovers, lists, reduces, texts, traces, unpacks,
+    ways_out,
 };
 use second::profile::{Profile, LARGE, POCKET, PROFILES};
 use second::random::{seed_or, Random};
@@ -80,8 +82,10 @@ fn one_fault_gives_its_number() {
             .iter()
             .map(|file| profile.check(file).number)
             .collect();
-        assert_eq!(numbers, [1, 2, 3, 4, 5, 6, 7, 8, 9]);
+        assert_eq!(numbers, faults(profile));
     });
+    assert_eq!(faults(LARGE), [1, 2, 3, 4, 5, 6, 7, 8, 9, 17]);
+    assert_eq!(faults(POCKET), [1, 2, 3, 4, 5, 6, 7, 8, 9]);
 }
 
 /// In a file the numbers are in the order in which they are tested.
@@ -101,7 +105,11 @@ fn of_two_faults_in_lists_the_first_of_the_pair_comes() {
     for_each_profile(|profile, random| {
         let cases = lists::two_faults(profile, random);
         for (&(first, second), case) in lists::PAIRS.iter().zip(cases) {
-            assert_eq!(number(&case), first, "{first} and {second}");
+            let comes = match (profile, first) {
+                (POCKET, 17) => second,
+                _ => first,
+            };
+            assert_eq!(number(&case), comes, "{first} and {second}");
         }
     });
 }
@@ -134,11 +142,7 @@ fn of_the_file(profile: Profile, filter: &Filter) -> (u8, u64) {
 
 /// The same for its lists.
 fn of_the_lists(profile: Profile, filter: &Filter) -> (u8, u64) {
-    let bytes = |values: Vec<u64>| -> Vec<u8> { values.iter().map(|&value| value as u8).collect() };
-    let edges = filter.edges.iter();
-    let edges = edges.flat_map(|edge| [edge.source, edge.label, edge.target]);
-    let edges = bytes(edges.collect());
-    let colours = bytes(filter.colours.clone());
+    let (colours, edges) = filter.lists();
     let answer = profile.pack(&colours, &edges, filter.m, filter.start, &mut []);
     (answer.number, answer.place)
 }
@@ -164,6 +168,201 @@ fn the_earlier_of_two_faulty_edges_decides() {
             is_named(profile, &damaged.filter, earlier, damaged.edge);
         }
     });
+}
+
+/// The number and the place for a text of these contents, as far as a text can say them.
+fn of_the_text(filter: &Filter) -> (u8, u64) {
+    let text = text_of(&drawable(filter.clone()));
+    let answer = Case::from_dot(text, Vec::new()).outcome().answer;
+    (answer.number, answer.place)
+}
+
+/// Those that lead out of the highest colour. The ends of a faulty edge may be no states.
+fn ways_out_of(profile: Profile, filter: &Filter) -> Vec<usize> {
+    let is_state = |state| state < filter.n();
+    let leads_out = |edge: &Edge| {
+        is_state(edge.source)
+            && is_state(edge.target)
+            && ways_out::leads_out(profile, &filter.colours, edge)
+    };
+    let edges = filter.edges.iter().enumerate();
+    edges
+        .filter(|(_, edge)| leads_out(edge))
+        .map(|(i, _)| i)
+        .collect()
+}
+
+/// A way out is what is told of a large file, of its lists and its text; of a pocket file it is nothing.
+fn is_the_first_way_out(profile: Profile, filter: &Filter, edge: usize) {
+    let (file, lists) = (of_the_file(profile, filter), of_the_lists(profile, filter));
+    if profile == POCKET {
+        // No room was lent for the file.
+        assert_eq!((file, lists), ((0, 0), (10, 0)));
+        return;
+    }
+    let bit = profile.bits(filter.n(), edge as u64);
+    assert_eq!(file, (17, bit));
+    assert_eq!(
+        (lists, of_the_text(filter)),
+        ((17, edge as u64), (17, edge as u64))
+    );
+    of_every_call(&profile.write(filter), filter, (17, bit));
+}
+
+/// What each call says that reads a large file, whatever else is wrong: rooms, labels, and what the other call cannot hold.
+fn of_every_call(file: &[u8], filter: &Filter, told: (u8, u64)) {
+    let file = || file.to_vec();
+    let rooms = [0, 400].map(|length| vec![0xee; length]);
+    for room in rooms {
+        let other = || room.clone();
+        for case in [
+            Case::check(LARGE, file()),
+            Case::unpack(LARGE, file(), other(), other()),
+            Case::trace(LARGE, file(), vec![filter.m as u8], other()),
+            Case::reduce(LARGE, file(), other(), other()),
+            Case::to_dot(file(), other()),
+            Case::to_pocket(file(), other()),
+        ] {
+            let answer = case.outcome().answer;
+            assert_eq!((answer.number, answer.place), told, "{:?}", case.call);
+        }
+    }
+}
+
+#[test]
+fn the_only_way_out_is_named_whether_the_start_leads_to_it_or_not() {
+    for_each_profile(|profile, random| {
+        for (i, filter) in ways_out::one_way_out(profile, random).iter().enumerate() {
+            let last = filter.edges.len() - 1;
+            let edge = [0, filter.edges.len() / 2, last][i % 3];
+            assert_eq!(ways_out_of(profile, filter), [edge]);
+            let source = filter.edges[edge].source;
+            assert_eq!(reached(filter).contains(&source), i < 3);
+            is_the_first_way_out(profile, filter, edge);
+        }
+    });
+}
+
+#[test]
+fn the_first_of_several_ways_out_is_named() {
+    for_each_profile(|profile, random| {
+        for filter in ways_out::several_ways_out(profile, random) {
+            let all = ways_out_of(profile, &filter);
+            assert!(all.len() > 1);
+            is_the_first_way_out(profile, &filter, all[0]);
+        }
+    });
+}
+
+#[test]
+fn the_highest_colour_is_found_in_each_state() {
+    let mut found = BTreeSet::new();
+    for_each_profile(|profile, random| {
+        for two in ways_out::in_each_state(profile, random).chunks(2) {
+            let [left, kept] = two else {
+                panic!("one that leads out and one that does not");
+            };
+            let [edge] = ways_out_of(profile, left)[..] else {
+                panic!("one edge that leads out");
+            };
+            is_the_first_way_out(profile, left, edge);
+            assert_eq!(of_the_file(profile, kept), (0, 0));
+            if left.n() == profile.most_states() {
+                found.insert((profile, left.edges[edge].source));
+            }
+        }
+    });
+    assert_eq!(found.len(), 256 + 16);
+}
+
+/// Wherever the way out stands.
+#[test]
+fn a_faulty_edge_decides_before_every_way_out() {
+    for_each_profile(|profile, random| {
+        let tops = Tops::of_files(profile);
+        let beside = ways_out::beside_a_faulty_edge(profile, tops, random);
+        for (i, damaged) in beside.iter().enumerate() {
+            let way_out = ways_out_of(profile, &damaged.filter);
+            let behind = i % 2 == 0;
+            assert!(way_out.iter().any(|&edge| (edge < damaged.edge) == behind));
+            is_named(profile, &damaged.filter, Damage::ALL[i / 2], damaged.edge);
+        }
+        let inside = ways_out::in_a_faulty_edge(profile, tops, random);
+        for (i, damaged) in inside.iter().enumerate() {
+            is_named(
+                profile,
+                &damaged.filter,
+                Damage::ALL[1 + i / 3],
+                damaged.edge,
+            );
+        }
+    });
+}
+
+#[test]
+fn the_highest_colour_is_kept_and_the_next_one_left() {
+    let (mut left, mut kept) = (0, 0);
+    for_each_profile(|profile, random| {
+        for filter in ways_out::kept(profile, random) {
+            assert_eq!(of_the_file(profile, &filter), (0, 0));
+        }
+        let two = ways_out::next_to_the_highest(profile, random);
+        let numbers = [&two[0], &two[1]].map(|filter| of_the_file(profile, filter).0);
+        assert_eq!(numbers, if profile == LARGE { [0, 17] } else { [0, 0] });
+        let top = profile.top_colour();
+        for filter in two {
+            assert!(filter.colours.iter().all(|&colour| colour >= top - 1));
+            let from_the_next = |edge: &&Edge| filter.colours[edge.source as usize] == top - 1;
+            left += filter.edges.iter().filter(from_the_next).count();
+            kept += filter
+                .edges
+                .iter()
+                .filter(|edge| !from_the_next(edge))
+                .count();
+        }
+    });
+    assert!(left > 1000 && kept > 1000, "{left} and {kept} edges");
+}
+
+/// Of lists and texts the damages are others, but which comes first is the same.
+#[test]
+fn in_lists_and_texts_a_faulty_edge_decides_before_a_way_out() {
+    for_each_seed(|random| {
+        let of_lists = PROFILES.map(|profile| lists::ways_out_and_faulty_edges(profile, random));
+        let of_texts = contents::ways_out_and_faulty_edges(random);
+        for case in of_lists.iter().flatten().chain(&of_texts) {
+            assert!((7..=9).contains(&number(case)));
+        }
+    });
+}
+
+#[test]
+fn the_highest_colour_is_kept_in_every_call() {
+    for_each_profile(|profile, random| {
+        for (i, case) in lists::highest_kept(profile, random).iter().enumerate() {
+            assert_eq!(number(case), if enough(i) { 0 } else { 10 });
+        }
+        for case in reduces::highest_kept(profile, random) {
+            assert_eq!(number(&case), 0);
+        }
+        let rides = traces::to_the_highest_colour(profile, random);
+        for (i, case) in rides.iter().enumerate() {
+            assert_eq!(number(case), if enough(i) { 0 } else { 12 });
+        }
+    });
+}
+
+/// Neither is left to the families that are made for it.
+#[test]
+fn the_highest_colours_are_left_as_it_happens_or_not() {
+    let mut numbers = BTreeSet::new();
+    for_each_profile(|profile, random| {
+        for filter in ways_out::as_it_happens(profile, random) {
+            numbers.insert((profile, of_the_file(profile, &filter).0));
+        }
+    });
+    let expected = [(LARGE, 0), (LARGE, 17), (POCKET, 0)];
+    assert_eq!(numbers, BTreeSet::from(expected));
 }
 
 #[test]
@@ -195,6 +394,16 @@ fn a_short_room_of_unpacking_is_12() {
         for (i, case) in cases.concat().iter().enumerate() {
             let fits = enough(i / Room::ALL.len()) && enough(i);
             assert_eq!(number(case), if fits { 0 } else { 12 });
+        }
+    });
+}
+
+#[test]
+fn a_faulty_file_decides_before_the_rooms_of_unpacking() {
+    for_each_profile(|profile, random| {
+        let cases = unpacks::of_faulty_files(profile, random);
+        for (i, case) in cases.iter().enumerate() {
+            assert_eq!(number(case), faults(profile)[i / 4]);
         }
     });
 }
@@ -298,7 +507,7 @@ fn a_faulty_file_decides_before_the_trace() {
     for_each_profile(|profile, random| {
         let cases = traces::through_faulty_files(profile, random);
         for (i, case) in cases.iter().enumerate() {
-            assert_eq!(told(case)[0], i as u64 / 4 + 1);
+            assert_eq!(number(case), faults(profile)[i / 4]);
         }
     });
 }
@@ -340,7 +549,7 @@ fn a_faulty_file_decides_before_the_rooms_of_a_reduction() {
     for_each_profile(|profile, random| {
         let cases = reduces::of_faulty_files(profile, random);
         for (i, case) in cases.iter().enumerate() {
-            assert_eq!(usize::from(number(case)), i / 4 + 1);
+            assert_eq!(number(case), faults(profile)[i / 4]);
         }
     });
 }
@@ -460,6 +669,7 @@ fn are_merged_and_parted(profile: Profile, make: fn(Profile, &mut Random) -> Vec
 fn accepted_texts_and_drawn_filters_are_accepted_where_the_room_is_enough() {
     are_accepted_where_the_room_is_enough(&[
         texts::accepted,
+        contents::fault_kept,
         drawings::drawn,
         drawings::of_the_document,
     ]);
@@ -566,7 +776,7 @@ fn what_cannot_be_drawn_is_15_whatever_the_room_and_a_faulty_file_decides_before
             assert_eq!(place_outside(&case), 0);
         }
         for (i, case) in drawings::of_faulty_files(random).iter().enumerate() {
-            assert_eq!(usize::from(number(case)), i / 4 + 1);
+            assert_eq!(number(case), faults(LARGE)[i / 4]);
         }
     });
 }
@@ -628,8 +838,9 @@ fn what_is_far_too_large_is_16_and_a_faulty_file_decides_before() {
             let filter = LARGE.read(&case.a).expect("accepted");
             assert_eq!(number(&case) == 16, !POCKET.can_hold(&filter));
         }
+        let of_each = [faults(POCKET), faults(LARGE), faults(LARGE)].concat();
         for (i, case) in conversions::of_faulty_files(random).iter().enumerate() {
-            assert_eq!(usize::from(number(case)), i / 6 + 1);
+            assert_eq!(number(case), of_each[i / 2]);
         }
     });
 }
@@ -646,6 +857,51 @@ fn a_few_batches_lead_to_every_kind_of_outcome() {
     }
     assert_eq!(seen.missing(), []);
     assert_eq!(seen.beyond(), []);
+}
+
+/// Those that are made for edges out of the fault, and those in which anything may come. In all others such an edge would hide
+/// what they are for.
+const WITH_WAYS_OUT: [&str; 29] = [
+    "one edge out of the highest colour",
+    "several edges out of the highest colour",
+    "the highest colour in each state",
+    "the highest colour and the next",
+    "the highest colours as it happens",
+    "lists with edges out of the highest colour",
+    "lists with the highest colour in each state",
+    "texts with edges out of the fault",
+    "texts with the fault in each state",
+    "one fault of each number",
+    "two faults in the lists",
+    "two faults of a text",
+    "faulty files unpacked",
+    "faulty files converted",
+    "faulty files drawn",
+    "traces through faulty files",
+    "reductions of faulty files",
+    "files of all families drawn",
+    "large files",
+    "large lists",
+    "the largest texts",
+    "accepted files with one bit turned",
+    "every bit of a file turned",
+    "noise behind a header that fits",
+    "random lists",
+    "numbers at the limits",
+    "the line behind some states",
+    "every byte of a text edited",
+    "numbers written otherwise",
+];
+
+#[test]
+fn edges_lead_out_of_the_fault_where_they_are_meant_to() {
+    let mut random = Random::new(seed_or(2));
+    for _ in 0..3 {
+        for made in second::make::batch(&mut random) {
+            let meant = WITH_WAYS_OUT.contains(&made.family);
+            assert!(meant || number(&made.case) != 17, "{}", made.family);
+        }
+    }
 }
 
 #[test]

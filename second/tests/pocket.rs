@@ -1,22 +1,17 @@
 //! Document 02's pocket files by hand: their bits, and what both programs have to say to them.
 
+#[path = "common/bits.rs"]
+mod bits;
 #[path = "common/by_hand.rs"]
 mod by_hand;
 mod common;
 
+use bits::bytes;
 use by_hand::{ridden, Ride};
 use second::case::Case;
-use second::file::{read, Edge, Filter};
+use second::file::{read, Filter};
 use second::profile::{LARGE, POCKET};
 use second::rides::*;
-
-/// The bytes of bits that are written out, spaces aside.
-fn bytes(bits: &str) -> Vec<u8> {
-    let digits: Vec<char> = bits.chars().filter(|digit| *digit != ' ').collect();
-    let byte = |eight: &[char]| u8::from_str_radix(&String::from_iter(eight), 2).expect("bits");
-    assert_eq!(digits.len() % 8, 0);
-    digits.chunks(8).map(byte).collect()
-}
 
 fn check(file: &[u8]) -> Case {
     Case::check(POCKET, file.to_vec())
@@ -247,8 +242,7 @@ fn places_of_faulty_edges() {
         }
         let large = LARGE.write(&filter);
         rides.push(Ride::refused(to_pocket(&large, 10), number, in_large));
-        let bytes = |edge: &Edge| [edge.source, edge.label, edge.target].map(|value| value as u8);
-        let edges: Vec<u8> = filter.edges.iter().flat_map(bytes).collect();
+        let (_, edges) = filter.lists();
         rides.push(Ride::refused(pack(K_COLOURS, &edges, 2, 0, 10), number, 2));
     }
     ridden(&rides);

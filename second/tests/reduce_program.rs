@@ -78,7 +78,7 @@ fn agree_on(what: &str, file: &[u8]) {
     all_write(what, file, &(REDUCE.own)(file), &(SHRINK.own)(file));
 }
 
-/// What document 01 prints, or says of its rides, and document 02 of P.
+/// What document 01 prints, or says of its rides, and document 02 of P and of a fault.
 #[test]
 fn the_document_s_files() {
     let [l, m, n] = [ride_l(), ride_m(), ride_n()].map(|ride| write(&ride));
@@ -99,6 +99,8 @@ fn the_document_s_files() {
         (F, "refused 3 0\n", &[]),
         (G, "refused 4 0\n", &[]),
         (H, "refused 6 0\n", &[]),
+        (K_KEPT, "3 3 3 0\n0 0\n1 1\n2 2\n", K_KEPT),
+        (K_LEFT, "refused 17 99\n", &[]),
     ] {
         all_write("a ride", file, text.as_bytes(), bytes);
     }
@@ -148,7 +150,13 @@ fn files_agree() {
         .into_iter()
         .flat_map(|(_, file)| kinds_of(file))
         .collect();
-    let of_the_rooms = [Kind::Number(10), Kind::Number(11), Kind::BothShort];
+    let of_the_rooms = [
+        Kind::Number(10),
+        Kind::Number(11),
+        Kind::BothShort,
+        Kind::InsteadOf(10),
+        Kind::InsteadOf(11),
+    ];
     let missing: Vec<Kind> = kinds::all_of(Call::Reduce(LARGE))
         .into_iter()
         // The programs' rooms are always enough.

@@ -1,11 +1,11 @@
 //! The second program's reducer against what documents 01 and 02 say in numbers, and against what must hold of any reduction.
 
-use second::file::{read, write, Filter};
+use second::file::{read, write, Filter, FAULT};
 use second::make::chains::plain;
 use second::make::groups::{crowd, many_groups};
 use second::make::traces::walk;
 use second::make::{leftovers, reduces};
-use second::profile::{Profile, PROFILES};
+use second::profile::{Profile, LARGE, PROFILES};
 use second::random::{seed, Random};
 use second::reach::reached;
 use second::reduce::{groups_made, reduce, stages, Reduced};
@@ -158,6 +158,7 @@ fn what_holds_of_every_reduction() {
             reduces::small_filters,
             reduces::sparse,
             reduces::copied_states,
+            reduces::highest_kept,
             leftovers::anywhere,
             leftovers::before_between_and_behind,
             leftovers::leading_to_the_live,
@@ -174,6 +175,45 @@ fn what_holds_of_every_reduction() {
     }
     assert!(folded >= 100, "SEED={seed}: only {folded} were folded");
     assert!(dropped >= 100, "SEED={seed}: only {dropped} had leftovers");
+}
+
+/// No edge of the reduced filter leaves the fault, and a ride that has shown it shows nothing else. All edges of faults lead to
+/// their own class, which is never split for that: so one state is left of the faults that are reached.
+#[test]
+fn a_fault_stays_a_fault() {
+    let seed = seed();
+    let mut random = Random::new(seed);
+    let (mut merged, mut shown) = (0, 0);
+    for _ in 0..200 {
+        for case in reduces::highest_kept(LARGE, &mut random) {
+            let original = read(&case.a).expect("accepted");
+            let reduced = reduce(&original).filter;
+            let leaves = reduced.edges.iter().any(|edge| reduced.is_way_out(edge));
+            assert!(!leaves, "SEED={seed}");
+            let faults = live_faults(&original);
+            assert_eq!(live_faults(&reduced), faults.min(1), "SEED={seed}");
+            merged += u32::from(faults > 1);
+            for filter in [original, reduced] {
+                let (observations, _) = walk(&filter, 40, &mut random);
+                let mut colours = ride(&filter, &observations).colours.into_iter();
+                let on_the_way = colours.position(|colour| colour == FAULT);
+                shown += u32::from(on_the_way.is_some() && colours.len() > 0);
+                assert!(colours.all(|colour| colour == FAULT), "SEED={seed}");
+            }
+        }
+    }
+    assert!(
+        merged >= 100,
+        "SEED={seed}: only {merged} had faults merged"
+    );
+    assert!(shown >= 100, "SEED={seed}: only {shown} rides went on");
+}
+
+/// How many of the states that the start leads to are faults.
+fn live_faults(filter: &Filter) -> usize {
+    let live = reached(filter).into_iter();
+    live.filter(|&state| filter.colours[state as usize] == FAULT)
+        .count()
 }
 
 fn holds(profile: Profile, original: &Filter, reduced: &Reduced, random: &mut Random, what: &str) {

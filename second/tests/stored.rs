@@ -42,7 +42,7 @@ fn kinds_of(call: Call, cases: &[Case]) -> BTreeSet<Kind> {
 fn the_stored_batch_has_every_number_and_stays_small() {
     let cases = stored::cases();
     for call in Call::ALL {
-        for &number in call.numbers() {
+        for number in call.numbers() {
             let hit = cases
                 .iter()
                 .any(|case| case.call == call && case.outcome().answer.number == number);
@@ -67,14 +67,20 @@ fn the_stored_batch_has_every_number_and_stays_small() {
     }
     for call in Call::ALL {
         let seen = kinds_of(call, &cases);
-        let is_wanted = |kind: &Kind| matches!(kind, Kind::AtField(..) | Kind::OneHighColour(_));
+        let is_wanted = |kind: &Kind| {
+            use Kind::*;
+            matches!(
+                kind,
+                AtField(..) | OneHighColour(_) | InsteadOf(_) | WayOutOfALeftover
+            )
+        };
         for kind in kinds::all_of(call).into_iter().filter(is_wanted) {
             assert!(seen.contains(&kind), "no {call:?} that is {kind:?}");
         }
     }
     let batch = write_batch(&cases);
-    // Half of it is the largest file alone. The calls of pocket files and the conversions took it from 90,000 bytes to this;
-    // the kit's interpreter runs it too, so it should not grow without need.
-    assert!(batch.len() <= 115_000, "{} bytes", batch.len());
+    // More than a third of it is the largest file alone. The calls of pocket files and the conversions took it from 90,000 bytes
+    // to 112,000, the fault to this; the kit's interpreter runs it too, so it should not grow without need.
+    assert!(batch.len() <= 118_000, "{} bytes", batch.len());
     assert_eq!(read_batch(&batch), cases);
 }

@@ -74,6 +74,10 @@ fn the_document_s_pairs() {
         (F, &[], "refused 3 0\n"),
         (G, &[], "refused 4 0\n"),
         (H, &[], "refused 6 0\n"),
+        (K_KEPT, &[0, 0, 0], "0\n63\n63\n63\ntraced\n"),
+        (K_LEFT, &[0, 0], "refused 17 99\n"),
+        (K_LEFT, R_OBSERVATIONS, "refused 17 99\n"),
+        (K_LEFT, &[0; 65_536], "refused 17 99\n"),
     ] {
         let path = folder.file("ride.filter", file);
         for command in both_with(&[path]) {
@@ -113,10 +117,11 @@ fn pairs_agree() {
         pair(&folder, &what, &file, &observations);
         seen.extend(kinds_of(file, observations));
     }
+    // The program's room is always enough, and where there are too many observations the file is not refused.
+    let of_the_room = [Kind::ShortRoom, Kind::InsteadOf(12)];
     let missing: Vec<Kind> = kinds::all_of(Call::Trace(LARGE))
         .into_iter()
-        // The program's room is always enough.
-        .filter(|kind| *kind != Kind::ShortRoom && !seen.contains(kind))
+        .filter(|kind| !of_the_room.contains(kind) && !seen.contains(kind))
         .collect();
     assert!(missing.is_empty(), "SEED={seed} never led to {missing:?}");
 }

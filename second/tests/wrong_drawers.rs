@@ -7,7 +7,7 @@ mod errors;
 use errors::{differing, made, told_apart};
 use second::case::Case;
 use second::dot::{self, labels_up_to, Drawing};
-use second::file::{judge_list, read, write, Edge, Filter};
+use second::file::{judge_list, judge_ways_out_of_list, read, write, Edge, Filter, Refusal};
 use second::make::{contents, drawings, texts, Family};
 use second::profile::LARGE;
 use second::random::{seed, Random};
@@ -215,13 +215,14 @@ enum Judged {
     EdgesBefore3,
     EdgesBefore14,
     RoomFirst,
+    RoomBefore17,
     EndsBehindOrder,
     /// Two edges of one source and label are one too many only if their targets are equal; else the former stands.
     TargetsCount,
 }
 
 impl Judged {
-    const ALL: [Judged; 14] = [
+    const ALL: [Judged; 15] = [
         Judged::EndsOfAByte,
         Judged::ColoursOfSixBits,
         Judged::LabelsOfSixBits,
@@ -234,6 +235,7 @@ impl Judged {
         Judged::EdgesBefore3,
         Judged::EdgesBefore14,
         Judged::RoomFirst,
+        Judged::RoomBefore17,
         Judged::EndsBehindOrder,
         Judged::TargetsCount,
     ];
@@ -264,7 +266,8 @@ impl Judged {
             n if self == Judged::StatesOfAByte => (n + 255) % 256 + 1,
             n => n,
         };
-        colours.truncate(n as usize);
+        // No states are 256 of a byte, of whatever colour.
+        colours.resize(n as usize, 0);
         let mut labels: Vec<u64> = edges.iter().map(|edge| edge.label).collect();
         labels.sort();
         labels.dedup();
@@ -293,41 +296,49 @@ impl Judged {
             m
         };
         let faulty = self.faulty(&edges, n, m_of_edges);
-        let mut tests = vec![
-            (outside, refused(14, 0)),
-            (edges.len() as u64 > n * m, refused(3, 0)),
-            (faulty.is_some(), faulty.unwrap_or(refused(0, 0))),
-            (short, refused(10, 0)),
-        ];
-        match self {
-            Judged::EdgesBefore3 => tests.swap(1, 2),
-            Judged::EdgesBefore14 => tests.rotate_left(2),
-            Judged::RoomFirst => tests.rotate_right(1),
-            Judged::NoStatesIs7 if n == 0 => return refused(7, 0),
-            _ => {}
-        }
-        if let Some((_, refusal)) = tests.into_iter().find(|(holds, _)| *holds) {
-            return refusal;
-        }
+        let too_many = edges.len() as u64 > n * m;
         let filter = Filter {
             colours,
             m,
             start: 0,
             edges,
         };
-        (0, 0, write(&filter))
+        let way_out = match faulty {
+            Some(_) => None,
+            None => told_of(judge_ways_out_of_list(&filter)),
+        };
+        let mut tests = vec![
+            outside.then_some(refused(14, 0)),
+            too_many.then_some(refused(3, 0)),
+            faulty,
+            way_out,
+            short.then_some(refused(10, 0)),
+        ];
+        match self {
+            Judged::EdgesBefore3 => tests.swap(1, 2),
+            Judged::EdgesBefore14 => tests.rotate_left(2),
+            Judged::RoomFirst => tests.rotate_right(1),
+            Judged::RoomBefore17 => tests.swap(3, 4),
+            Judged::NoStatesIs7 if n == 0 => return refused(7, 0),
+            _ => {}
+        }
+        let refusal = tests.into_iter().flatten().next();
+        refusal.unwrap_or_else(|| (0, 0, write(&filter)))
     }
 
     fn faulty(self, edges: &[Edge], n: u64, m: u64) -> Option<Told> {
         let judged = |n| judge_list(edges, n, m);
-        let judgement = match self {
+        told_of(match self {
             // The order in a first walk, the ends in a second.
             Judged::EndsBehindOrder => judged(1000).and_then(|()| judged(n)),
             _ => judged(n),
-        };
-        let refusal = judgement.err()?;
-        Some(refused(refusal.number, refusal.place))
+        })
     }
+}
+
+fn told_of(judgement: Result<(), Refusal>) -> Option<Told> {
+    let refusal = judgement.err()?;
+    Some(refused(refusal.number, refusal.place))
 }
 
 #[test]
@@ -353,18 +364,20 @@ enum Drawn {
     UnusedLabelsWithoutEdges,
     RoomFirst,
     BeforeTheEdges,
+    BeforeTheFault,
     TargetBeforeSource,
     NoLastNewline,
     ColoursFromOne,
 }
 
 impl Drawn {
-    const ALL: [Drawn; 8] = [
+    const ALL: [Drawn; 9] = [
         Drawn::AnyStart,
         Drawn::UnusedLabels,
         Drawn::UnusedLabelsWithoutEdges,
         Drawn::RoomFirst,
         Drawn::BeforeTheEdges,
+        Drawn::BeforeTheFault,
         Drawn::TargetBeforeSource,
         Drawn::NoLastNewline,
         Drawn::ColoursFromOne,
@@ -410,10 +423,13 @@ fn filters_that_are_drawn_wrongly() {
     let wrong = |error: Drawn, case: &Case| match read(&case.a) {
         Ok(filter) => Some(error.told(filter, case.c.len())),
         Err(refusal) => {
-            let of_an_edge = (7..=9).contains(&refusal.number);
+            let comes_first = match refusal.number {
+                7..=9 => error == Drawn::BeforeTheEdges,
+                17 => error == Drawn::BeforeTheFault,
+                _ => false,
+            };
             let other_start = LARGE.header(&case.a)?.start != 0;
-            let before = error == Drawn::BeforeTheEdges && of_an_edge && other_start;
-            before.then(|| refused(15, 0))
+            (comes_first && other_start).then(|| refused(15, 0))
         }
     };
     assert_eq!(differing(&tried, |case| wrong(Drawn::Nothing, case)), 0);

@@ -1,7 +1,7 @@
 /*
  * Every call of the library from C: the values at their documented places, refusals with number and place, and rooms that a
  * refusal leaves as found. The cases are document 01's rides K, P, Q and R, K with faulty edges, each as a large file and as
- * a pocket file, ride K drawn, and one file turned into the other.
+ * a pocket file, ride K drawn, one file turned into the other, and faults that are left and that are kept.
  */
 #include <stdio.h>
 #include <string.h>
@@ -38,8 +38,27 @@ static const uint8_t p_pocket[7] = {0x20, 0x00, 0x40, 0x02, 0x00, 0x04, 0x10};
 static const uint8_t p_pocket_reduced[5] = {0x00, 0x00, 0x20, 0x00, 0x00};
 
 #define THREE_STATES "digraph {\n0 [label=0];\n1 [label=1];\n2 [label=1];\n"
-static const char k_drawing[] =
-    THREE_STATES "0 -> 1 [label=0];\n0 -> 2 [label=1];\n1 -> 0 [label=0];\n2 -> 0 [label=1];\n}\n";
+#define K_EDGES "0 -> 1 [label=0];\n0 -> 2 [label=1];\n1 -> 0 [label=0];\n2 -> 0 [label=1];\n"
+static const char k_drawing[] = THREE_STATES K_EDGES "}\n";
+
+/* A fault that is kept: K with colour 63 for states 1 and 2, which lead to each other.
+ *
+ * header as K's, colours 0 63 63:           00000010|000001.00|000000.00|00000000|00100. 000|000.11111|1.111111.
+ * edges (0,0,1) (0,1,2) (1,0,2) (2,1,1):    0|0000000.0|00000.000|00001. 000|00000.000|001.00000|010. 00000|001.00000|0.0000001|0.
+ *                                           0000001|0.000001.0|0000001. and 0 fills it up.
+ */
+static const uint8_t kept_file[18] = {0x02, 0x04, 0x00, 0x00, 0x20, 0x1F, 0xFE, 0x00, 0x00,
+                                      0x08, 0x00, 0x20, 0x40, 0x20, 0x01, 0x01, 0x02, 0x02};
+static const uint8_t kept_colours[3] = {0, PIERHOLLOW_FAULT_COLOUR, PIERHOLLOW_FAULT_COLOUR};
+static const uint8_t kept_edges[12] = {0, 0, 1, 0, 1, 2, 1, 0, 2, 2, 1, 1};
+static const char kept_drawing[] = "digraph {\n0 [label=0];\n1 [label=63];\n2 [label=63];\n"
+                                   "0 -> 1 [label=0];\n0 -> 2 [label=1];\n1 -> 2 [label=0];\n2 -> 1 [label=1];\n}\n";
+/* Reduced, n - 1 = 1, as K reduced:         00000001|000001.00|000000.00|00000000|00100. 000|000.11111|1.
+ * edges (0,0,1) (0,1,1) (1,0,1) (1,1,1):    0000000|0.000000.0|0000001. 0|0000000.0|00001.000|00001. 000|00001.000|000.00000|001.
+ *                                           00000|001.00000|1.0000000|1. and 0000000 fill it up.
+ */
+static const uint8_t kept_reduced[18] = {0x01, 0x04, 0x00, 0x00, 0x20, 0x1F, 0x80, 0x00, 0x02,
+                                         0x00, 0x08, 0x08, 0x08, 0x00, 0x20, 0x20, 0x80, 0x80};
 
 struct bytes {
     const uint8_t *at;
@@ -571,6 +590,269 @@ static void longest(void)
                    "to_pocket of the largest");
 }
 
+/* K's file with a fault that is left: 17 at the bit by every call that reads a large file, whatever else the call would refuse. */
+static void leave_a_fault(const uint8_t file[18], uint64_t bit, const char *what)
+{
+    static const uint8_t outside[2] = {0, 64};
+    static const uint8_t many[65536] = {0};
+    uint64_t values[4] = {9, 9, 9, 9};
+    uint8_t room[200];
+    uint8_t edges[14];
+    uint16_t classes[4] = {7, 7, 7, 7};
+    memset(room, 0xAA, sizeof room);
+    memset(edges, 0xAA, sizeof edges);
+    const struct {
+        const char *call;
+        uint64_t returned;
+    } made[] = {
+        {"check", pierhollow_check(file, 18, values)},
+        {"unpack", pierhollow_unpack(file, 18, room, 200, edges, 14, values)},
+        {"unpack, two colours", pierhollow_unpack(file, 18, room, 2, edges, 14, values)},
+        {"unpack, 11 edge bytes", pierhollow_unpack(file, 18, room, 200, edges, 11, values)},
+        {"unpack, no room", pierhollow_unpack(file, 18, NULL, 0, NULL, 0, values)},
+        {"trace", pierhollow_trace(file, 18, k_colours, 3, room, 200, values)},
+        {"trace of no observations", pierhollow_trace(file, 18, NULL, 0, room, 200, values)},
+        {"trace of an observation outside", pierhollow_trace(file, 18, outside, 2, room, 200, values)},
+        {"trace, room for two", pierhollow_trace(file, 18, outside, 2, room, 2, values)},
+        {"trace of 65,536 observations", pierhollow_trace(file, 18, many, sizeof many, NULL, 0, values)},
+        {"reduce", pierhollow_reduce(file, 18, room, 200, classes, 4, values)},
+        {"reduce, two entries", pierhollow_reduce(file, 18, room, 200, classes, 2, values)},
+        {"reduce, a byte too few", pierhollow_reduce(file, 18, room, 17, classes, 4, values)},
+        {"reduce, no room", pierhollow_reduce(file, 18, NULL, 0, NULL, 0, values)},
+        {"to_pocket", pierhollow_to_pocket(file, 18, room, 200, values)},
+        {"to_pocket, no room", pierhollow_to_pocket(file, 18, NULL, 0, values)},
+        {"to_dot", pierhollow_to_dot(file, 18, room, 200, values)},
+        {"to_dot, no room", pierhollow_to_dot(file, 18, NULL, 0, values)},
+    };
+    for (size_t i = 0; i < sizeof made / sizeof *made; i++) {
+        char told[100];
+        snprintf(told, sizeof told, "%s: %s", made[i].call, what);
+        expect_refusal(made[i].returned, PIERHOLLOW_FAULT, bit, told);
+    }
+    expect(all(room, 200, 0xAA) && all(edges, 14, 0xAA) && values_are(values, 4, (const uint64_t[4]){9, 9, 9, 9}) &&
+               memcmp(classes, (const uint16_t[4]){7, 7, 7, 7}, sizeof classes) == 0,
+           "a fault that is left leaves rooms and values");
+}
+
+/* K with other colours: state 0's stands in bytes 4 and 5, 00100.000|000, state 1's in 5 and 6, 00000|0, state 2's in 6, 000000. */
+static void colour_k(uint8_t file[18], uint8_t byte_4, uint8_t byte_5, uint8_t byte_6)
+{
+    memcpy(file, k_file, 18);
+    file[4] = byte_4;
+    file[5] = byte_5;
+    file[6] = byte_6;
+}
+
+static void leave_faults(void)
+{
+    /* Edge i begins at bit 37 + 3 * 6 + 22 * i: 55, 77, 99 and 121. */
+    uint8_t file[18];
+    uint64_t values[4];
+    colour_k(file, 0x27, 0xE0, 0x82);
+    leave_a_fault(file, 55, "K with colours 63 1 1");
+    colour_k(file, 0x27, 0xFF, 0x82);
+    leave_a_fault(file, 77, "K with colours 63 63 1");
+    colour_k(file, 0x20, 0x00, 0xFE);
+    leave_a_fault(file, 121, "K with colours 0 1 63");
+    colour_k(file, 0x20, 0x1F, 0xFE);
+    leave_a_fault(file, 99, "K with colours 0 63 63");
+    colour_k(file, 0x20, 0x1F, 0x82);
+    leave_a_fault(file, 99, "K with colours 0 63 1");
+    file[2] = 0x08;
+    leave_a_fault(file, 99, "the same from state 2, which has no drawing");
+    file[2] = 0x00;
+    file[1] = 0x08;
+    leave_a_fault(file, 99, "the same with a third label, which has no drawing");
+
+    /* 7, 8 and 9 of edge 3, behind the one that leaves: its source and label are 0000001|0.000001 in bytes 15 and 16. */
+    colour_k(file, 0x20, 0x1F, 0x82);
+    file[16] = 0x04;
+    name_the_bit(&large, file, PIERHOLLOW_OUTSIDE, 129, "leaving a fault, and edge 3 with the label 2");
+    file[15] = 0x00;
+    file[16] = 0x02;
+    name_the_bit(&large, file, PIERHOLLOW_ORDER, 121, "leaving a fault, and edge 3 from 0");
+    file[16] = 0x80;
+    name_the_bit(&large, file, PIERHOLLOW_REPEATED, 121, "leaving a fault, and edge 3 with the same source and label");
+    file[17] = 0x01;
+    name_the_bit(&large, file, PIERHOLLOW_FILLING, 0, "leaving a fault, and a filling bit");
+
+    /* 7, 8 and 9 of edge 1, before it: the labels of edges 0 and 1 end in byte 8, 00000.000, and in byte 11, 001.00000. */
+    colour_k(file, 0x20, 0x1F, 0x82);
+    file[11] = 0x40;
+    name_the_bit(&large, file, PIERHOLLOW_OUTSIDE, 85, "leaving a fault, and edge 1 with the label 2");
+    file[11] = 0x00;
+    name_the_bit(&large, file, PIERHOLLOW_REPEATED, 77, "leaving a fault, and edge 1 with the label 0");
+    file[8] = 0x08;
+    name_the_bit(&large, file, PIERHOLLOW_ORDER, 77, "leaving a fault, and edges 0 and 1 with the labels 1 and 0");
+
+    colour_k(file, 0x27, 0xFF, 0xFE);
+    expect(pierhollow_check(file, 18, values) == 0, "check of K with colours 63 63 63");
+    colour_k(file, 0x20, 0x1F, 0x02);
+    expect(pierhollow_check(file, 18, values) == 0, "check of K with colours 0 62 1");
+}
+
+/* Ride P with a fault for state 1, which the start cannot reach, nor the state that it leads to. */
+static void leave_a_leftover_fault(void)
+{
+    uint64_t values[4] = {9, 9, 9, 9};
+    uint8_t file[13];
+    uint8_t answer[13];
+    uint16_t classes[3] = {7, 7, 7};
+    memcpy(file, p_file, 13);
+    file[5] = 0x1F;
+    file[6] = 0x82;
+    memset(answer, 0xAA, sizeof answer);
+    expect_refusal(pierhollow_check(file, 13, values), PIERHOLLOW_FAULT, 77, "check of P with colours 0 63 1");
+    expect_refusal(pierhollow_reduce(file, 13, answer, 13, classes, 3, values), PIERHOLLOW_FAULT, 77,
+                   "reduce of P with colours 0 63 1");
+    expect(all(answer, 13, 0xAA) && classes[0] == 7 && values[0] == 9, "reduce of P with a fault leaves the rooms");
+}
+
+static void pack_refuses(const uint8_t colours[3], const uint8_t *edges, size_t m, size_t start, unsigned number, uint64_t place,
+                         const char *what)
+{
+    uint64_t values[1] = {9};
+    uint8_t room[20];
+    memset(room, 0xAA, sizeof room);
+    expect_refusal(pierhollow_pack(colours, 3, edges, 12, m, start, room, 20, values), number, place, what);
+    expect_refusal(pierhollow_pack(colours, 3, edges, 12, m, start, NULL, 0, values), number, place, what);
+    expect(all(room, 20, 0xAA) && values[0] == 9, what);
+}
+
+static void pack_faults(void)
+{
+    static const uint8_t left[3] = {0, 63, 1};
+    static const uint8_t too_high[3] = {0, 63, 64};
+    uint8_t edges[12];
+    uint8_t room[18];
+    uint64_t values[1];
+    pack_refuses(left, k_edges, 2, 0, PIERHOLLOW_FAULT, 2, "pack: 17 at 2");
+    pack_refuses(left, k_edges, 2, 2, PIERHOLLOW_FAULT, 2, "pack: 17 at 2, from state 2");
+    pack_refuses((const uint8_t[3]){63, 63, 1}, k_edges, 2, 0, PIERHOLLOW_FAULT, 1, "pack: 17 at 1");
+    pack_refuses((const uint8_t[3]){63, 1, 1}, k_edges, 2, 0, PIERHOLLOW_FAULT, 0, "pack: 17 at 0");
+    pack_refuses((const uint8_t[3]){0, 1, 63}, k_edges, 2, 0, PIERHOLLOW_FAULT, 3, "pack: 17 at 3");
+    pack_refuses(too_high, k_edges, 2, 0, PIERHOLLOW_LISTS, 0, "pack: 14 before 17");
+    pack_refuses(left, k_edges, 2, 3, PIERHOLLOW_START, 0, "pack: 2 before 17");
+    pack_refuses(left, k_edges, 1, 0, PIERHOLLOW_EDGE_COUNT, 0, "pack: 3 before 17");
+    memcpy(edges, k_edges, 12);
+    edges[10] = 2;
+    pack_refuses(left, edges, 2, 0, PIERHOLLOW_OUTSIDE, 3, "pack: 7 behind an edge that leaves a fault");
+    edges[9] = 0;
+    edges[10] = 1;
+    pack_refuses(left, edges, 2, 0, PIERHOLLOW_ORDER, 3, "pack: 8 behind an edge that leaves a fault");
+    edges[9] = 1;
+    edges[10] = 0;
+    pack_refuses(left, edges, 2, 0, PIERHOLLOW_REPEATED, 3, "pack: 9 behind an edge that leaves a fault");
+    expect(pierhollow_pack((const uint8_t[3]){63, 63, 63}, 3, k_edges, 12, 2, 0, room, 18, values) == 0,
+           "pack of K with colours 63 63 63");
+    expect(pierhollow_pack((const uint8_t[3]){0, 62, 1}, 3, k_edges, 12, 2, 0, room, 18, values) == 0,
+           "pack of K with colours 0 62 1");
+}
+
+#define LEFT_STATES "digraph {\n0 [label=0];\n1 [label=63];\n2 [label=1];\n"
+
+static void draw_faults(void)
+{
+    static const char left[] = LEFT_STATES K_EDGES "}\n";
+    uint64_t values[1] = {9};
+    from_dot_refuses(left, PIERHOLLOW_FAULT, 2, "from_dot: 17 at 2");
+    from_dot_refuses("digraph {\n0 [label=0];\n1 [label=1];\n2 [label=63];\n" K_EDGES "}\n", PIERHOLLOW_FAULT, 3, "from_dot: 17 at 3");
+    from_dot_refuses("digraph {\n0 [label=63];\n1 [label=63];\n2 [label=1];\n" K_EDGES "}\n", PIERHOLLOW_FAULT, 1, "from_dot: 17 at 1");
+    expect_refusal(pierhollow_from_dot((const uint8_t *)left, sizeof left - 1, NULL, 0, values), PIERHOLLOW_FAULT, 2,
+                   "from_dot: 17 before 10");
+    from_dot_refuses(LEFT_STATES K_EDGES "}", PIERHOLLOW_DRAWING, 123, "from_dot: 15 before 17");
+    from_dot_refuses("digraph {\n0 [label=64];\n1 [label=63];\n2 [label=1];\n" K_EDGES "}\n", PIERHOLLOW_LISTS, 0,
+                     "from_dot: 14 before 17");
+    from_dot_refuses("digraph {\n0 [label=63];\n1 [label=0];\n0 -> 1 [label=0];\n1 -> 0 [label=0];\n1 -> 1 [label=0];\n}\n",
+                     PIERHOLLOW_EDGE_COUNT, 0, "from_dot: 3 before 17");
+    from_dot_refuses(LEFT_STATES K_EDGES "3 -> 0 [label=0];\n}\n", PIERHOLLOW_OUTSIDE, 4, "from_dot: 7 behind an edge that leaves a fault");
+    from_dot_refuses(LEFT_STATES K_EDGES "2 -> 0 [label=0];\n}\n", PIERHOLLOW_ORDER, 4, "from_dot: 8 behind an edge that leaves a fault");
+    from_dot_refuses(LEFT_STATES K_EDGES "2 -> 1 [label=1];\n}\n", PIERHOLLOW_REPEATED, 4, "from_dot: 9 behind an edge that leaves a fault");
+}
+
+/* The last of all edges that there can be leaves the fault of state 255. Its target ends with bit 362,020, the fifth of the last byte. */
+static void leave_by_the_last_edge(void)
+{
+    static uint8_t edges[3 * 256 * 64];
+    static uint8_t file[PIERHOLLOW_LONGEST_FILE];
+    uint8_t colours[256] = {[255] = PIERHOLLOW_FAULT_COLOUR};
+    uint64_t values[4];
+    for (size_t i = 0; i < 256 * 64; i++) {
+        edges[3 * i] = (uint8_t)(i / 64);
+        edges[3 * i + 1] = (uint8_t)(i % 64);
+        edges[3 * i + 2] = 255;
+    }
+    expect(pierhollow_pack(colours, 256, edges, sizeof edges, 64, 0, file, sizeof file, values) == 0,
+           "pack of the largest with a kept fault");
+    file[45252] ^= 0x08;
+    expect_refusal(pierhollow_check(file, sizeof file, values), PIERHOLLOW_FAULT, 361999, "check: 17 of the last edge");
+    edges[3 * 16383 + 2] = 254;
+    expect_refusal(pierhollow_pack(colours, 256, edges, sizeof edges, 64, 0, file, sizeof file, values), PIERHOLLOW_FAULT, 16383,
+                   "pack: 17 of the last edge");
+}
+
+/* A fault that is led to and kept, through every call. */
+static void keep_a_fault(void)
+{
+    static const uint8_t ride[3] = {0, 0, 1};
+    uint64_t values[4];
+    uint8_t room[sizeof kept_drawing];
+    uint8_t edges[12];
+    uint16_t classes[3];
+    size_t length = sizeof kept_drawing - 1;
+    expect(pierhollow_check(kept_file, 18, values) == 0 && values_are(values, 4, (const uint64_t[4]){3, 2, 0, 4}),
+           "check of a kept fault");
+    expect(pierhollow_unpack(kept_file, 18, room, 3, edges, 12, values) == 0 && memcmp(room, kept_colours, 3) == 0 &&
+               memcmp(edges, kept_edges, 12) == 0,
+           "unpack of a kept fault");
+    expect(pierhollow_pack(kept_colours, 3, kept_edges, 12, 2, 0, room, 18, values) == 0 && memcmp(room, kept_file, 18) == 0,
+           "pack of a kept fault");
+    expect(pierhollow_trace(kept_file, 18, ride, 3, room, 4, values) == 0 && values[0] == 0 &&
+               memcmp(room, (const uint8_t[4]){0, 63, 63, 63}, 4) == 0,
+           "trace into a kept fault");
+    expect(pierhollow_reduce(kept_file, 18, room, 18, classes, 3, values) == 0 &&
+               values_are(values, 4, (const uint64_t[4]){2, 2, 0, 18}) && memcmp(room, kept_reduced, 18) == 0 &&
+               memcmp(classes, (const uint16_t[3]){0, 1, 1}, sizeof classes) == 0,
+           "reduce of a kept fault");
+    expect(pierhollow_check(kept_reduced, 18, values) == 0, "check of a kept fault reduced");
+    expect(pierhollow_to_dot(kept_file, 18, room, length, values) == 0 && memcmp(room, kept_drawing, length) == 0,
+           "to_dot of a kept fault");
+    expect(pierhollow_from_dot((const uint8_t *)kept_drawing, length, room, 18, values) == 0 && memcmp(room, kept_file, 18) == 0,
+           "from_dot of a kept fault");
+    expect_refusal(pierhollow_to_pocket(kept_file, 18, room, 18, values), PIERHOLLOW_POCKET, 0, "to_pocket of a kept fault");
+}
+
+/* The highest pocket colour is no fault: K with colours 0 15 1, as a pocket file and turned. */
+static void leave_a_high_pocket_colour(void)
+{
+    static const uint8_t colours[3] = {0, 15, 1};
+    uint8_t file[10];
+    uint8_t wide[18];
+    uint8_t room[18];
+    uint8_t edges[12];
+    uint16_t classes[3];
+    uint64_t values[4];
+    /* Bytes 2 and 3 are 100.0000.1|111.0001.0 */
+    memcpy(file, k_pocket, 10);
+    file[2] = 0x81;
+    file[3] = 0xE2;
+    /* Bytes 5 and 6 are 000.00111|1.000001.0 */
+    colour_k(wide, 0x20, 0x07, 0x82);
+    expect(pierhollow_pocket_check(file, 10, values) == 0, "pocket_check of a colour of 15 that is left");
+    expect(pierhollow_pocket_unpack(file, 10, room, 3, edges, 12, values) == 0 && memcmp(room, colours, 3) == 0 &&
+               memcmp(edges, k_edges, 12) == 0,
+           "pocket_unpack of a colour of 15 that is left");
+    expect(pierhollow_pocket_pack(colours, 3, k_edges, 12, 2, 0, room, 10, values) == 0 && memcmp(room, file, 10) == 0,
+           "pocket_pack of a colour of 15 that is left");
+    expect(pierhollow_pocket_trace(file, 10, (const uint8_t[2]){0, 0}, 2, room, 3, values) == 0 && values[0] == 0 &&
+               memcmp(room, (const uint8_t[3]){0, 15, 0}, 3) == 0,
+           "pocket_trace through a colour of 15");
+    expect(pierhollow_pocket_reduce(file, 10, room, 10, classes, 3, values) == 0 && values[0] == 3 && memcmp(room, file, 10) == 0,
+           "pocket_reduce of a colour of 15 that is left");
+    turn(&pocket, (struct bytes)BYTES(file), (struct bytes)BYTES(wide), "a colour of 15 that is left");
+    turn(&large, (struct bytes)BYTES(wide), (struct bytes)BYTES(file), "a colour of 15 that is left");
+}
+
 static void calls_of(const struct profile *profile, const struct profile *other)
 {
     subject = profile->name;
@@ -592,11 +874,18 @@ int main(void)
     to_dot();
     longest();
     too_large_for_a_pocket();
+    leave_faults();
+    leave_a_leftover_fault();
+    pack_faults();
+    draw_faults();
+    leave_by_the_last_edge();
+    keep_a_fault();
     calls_of(&pocket, &large);
     name_pocket_bits();
     smallest_pocket();
     just_for_a_pocket();
     longest_pocket();
+    leave_a_high_pocket_colour();
     printf("%d checks, %d failed\n", checks, failures);
     return failures != 0;
 }

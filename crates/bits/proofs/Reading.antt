@@ -85,9 +85,9 @@ field-window s q h =
     let w = field-whole s (q + 3) (h (q + 3)) in
     rw (field-split s (q * 8) 24 8, field-split s (q * 8) 16 8, field-split s (q * 8) 8 8, a, b, d, z, y, x, w) (omega arith)
 
--- a field out of the four bytes that it may touch
-pub field-of-window : (s : List ℕ) (at w k : ℕ) → at % 8 + w + k ≡ 32 → field s at w ≡ field s (at / 8 * 8) 32 / 2 ^ k % 2 ^ w
-field-of-window s at w k e =
+-- a field out of the bits of the bytes that it may touch
+pub field-of-window : (s : List ℕ) (at w bits k : ℕ) → at % 8 + w + k ≡ bits → field s at w ≡ field s (at / 8 * 8) bits / 2 ^ k % 2 ^ w
+field-of-window s at w bits k e =
     let a : at ≡ at / 8 * 8 + at % 8 = omega arith in
     ap (λ (n : ℕ). field s n w) a
     ∙ field-within s (at / 8 * 8) (at % 8) w k

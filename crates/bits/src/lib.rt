@@ -50,6 +50,32 @@ pub fn get(s: &[u8], at: usize, width: usize) -> u64
     (x >> (32 - at % 8 - width)) % (1u64 << width)
 }
 
+// The eight bytes from q on as one number; bytes past the end count as 0. Where all eight are inside the compiler can make one load
+// of them.
+fn long_window(s: &[u8], q: usize) -> u64
+    requires { ⌜ q < 2 ^ 61 ⌝ }
+    ensures { λ r. ⌜ (r ≡ field (now (s .entry)) (q * 8) 64) × (r < 2 ^ 64) ⌝ }
+{
+    if q + 8 <= s.len() {
+        (wide(s[q]) * 16777216 + wide(s[q + 1]) * 65536 + wide(s[q + 2]) * 256 + wide(s[q + 3]))
+            * 4294967296
+            + (wide(s[q + 4]) * 16777216
+                + wide(s[q + 5]) * 65536
+                + wide(s[q + 6]) * 256
+                + wide(s[q + 7]))
+    } else {
+        window(s, q) * 4294967296 + window(s, q + 4)
+    }
+}
+
+// The 48 bits from bit `at` on; bits past the end count as 0.
+pub fn get_long(s: &[u8], at: usize) -> u64
+    ensures { λ r. ⌜ (r ≡ field (now (s .entry)) at 48) × (r < 2 ^ 48) ⌝ }
+{
+    let x = long_window(s, at / 8);
+    (x >> (16 - at % 8)) % 281474976710656
+}
+
 // x with the `width` bits above its lowest k replaced by value.
 fn spliced(x: u64, width: usize, k: usize, value: u64) -> u64
     requires { ⌜ (width + k ≤ 32) × (value < 2 ^ width) × (x < 2 ^ 32) ⌝ }

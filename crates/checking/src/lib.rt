@@ -9,7 +9,9 @@ ghost use mathlib.Core.Path.{_≡_};
 ghost use Rattle.refusals.specs.Refusals.{onward, refusalOutcome};
 ghost use Rattle.layout.specs.Layout.{large, pocket};
 ghost use Rattle.layout.specs.Code.{Usable};
-ghost use Rattle.files.specs.Files.{headOf};
+ghost use Rattle.edges.specs.Faults.{edgesThen};
+ghost use Rattle.edges.specs.Walk.{faultOf};
+ghost use Rattle.files.specs.Files.{readingOutcome, headOf};
 ghost use Rattle.checking.specs.Promise.{checkedOutcome, CheckPromise};
 
 pub enum Checked {
@@ -51,7 +53,17 @@ fn check_as(p: Profile, answer: Checked, file: &[u8]) -> Checked
             Verdict::Faulty(why) => return Checked::Refused(why),
         }
     }
-    Checked::Accepted(r)
+    told(r, leaving::first(p, file, n, e))
+}
+
+// What is answered when every edge has passed 7, 8 and 9, by what was found of 17.
+pub fn told(r: Reading, verdict: Verdict) -> Checked
+    ensures { λ a. ⌜ checkedOutcome a ≡ edgesThen (faultOf verdict) (readingOutcome r) ⌝ }
+{
+    match verdict {
+        Verdict::Faultless => Checked::Accepted(r),
+        Verdict::Faulty(why) => Checked::Refused(why),
+    }
 }
 
 fn refused(kind: Kind) -> Checked

@@ -6,8 +6,10 @@ use mathlib.Core.List.{List, [], _∷_, _++_}
 use Prim.Native.Nat.{ℕ, _*_, _≤_, _<_}
 use native.Mathlib.Nat.{mul-le-mul}
 use native.Mathlib.Omega.{arith}
+use lib.Dec.{lit≤}
 use lib.ListN.{length, take, drop}
 use borrow.Author.Tests.{lt-ltb, le-ltb}
+use Rattle.meaning.specs.Cases.{impossible}
 use Rattle.meaning.specs.Filter.{Filter, states}
 use Rattle.refusals.specs.declared.Kind.the-variants.{AnswerRoom, Pocket}
 use Rattle.refusals.specs.declared.Refusal.{Refusal}
@@ -31,10 +33,20 @@ use Rattle.converting.specs.Code.{Convertible}
 -- ---- the two conversions
 
 pub to-large : Convertible pocket large
-to-large = record { from = pocket-usable; to = large-usable; few = λ n m a b c d. mul-le-mul {n₂ = 16} {m₂ = 8} a c }
+to-large = record {
+  from = pocket-usable;
+  to = large-usable;
+  few = λ n m a b c d. mul-le-mul {n₂ = 16} {m₂ = 8} a c;
+  above = λ c e. let is : 63 ≡ c = cc in rw (← is) (lit≤ tt);
+}
 
 pub to-pocket : Convertible large pocket
-to-pocket = record { from = large-usable; to = pocket-usable; few = λ n m a b c d. mul-le-mul {n₂ = 16} {m₂ = 8} b d }
+to-pocket = record {
+  from = large-usable;
+  to = pocket-usable;
+  few = λ n m a b c d. mul-le-mul {n₂ = 16} {m₂ = 8} b d;
+  above = λ c e. impossible cc;
+}
 
 -- ---- refusals
 
@@ -80,7 +92,7 @@ module _ (From To : Profile) (file : List ℕ) (r : Reading) (is : ReadIs From f
 module _ (From To : Profile) (ok : Convertible From To) (file : List ℕ) (r : Reading) (is : ReadIs From file r)
     (h : holdable To (filterIn From file .colours) (filterIn From file .labels) ≡ true) where
   pub writable-there : Writable To (filterIn From file)
-  writable-there = held-writable From To (filterIn From file) (read-writable From (ok .from) file (is .sound)) h
+  writable-there = held-writable From To (filterIn From file) (ok .above) (read-writable From (ok .from) file (is .sound)) h
 
   -- the code has room for the edges
   pub few-edges : r .edges ≤ 128

@@ -9,6 +9,7 @@ use Rattle.bits.specs.Bits.{bitAt, field, splice, putBit, putField}
 use Rattle.pen.specs.Runs.{fields, putFields}
 use Rattle.meaning.specs.Cases.{impossible}
 use Rattle.meaning.specs.Filter.{comesBefore, samePlace}
+use Rattle.meaning.specs.Fault.{leaves}
 use Rattle.meaning.specs.Search.{any, least, count, tab}
 use Rattle.meaning.specs.Reach.{among, meet, visited, walked, reached}
 use Rattle.meaning.specs.Classes.{initial, parted, first, free, groups, split, round, chosen, begin, cut, run, reduction, classes, number}
@@ -17,7 +18,7 @@ use Rattle.meaning.specs.Trace.{target, edge, colour, ridden, halted, shown, st
 use Rattle.layout.specs.Layout.{large, headerBits, edgeBits, edgesBegin, fileBits, bytesFor, fileLength, fillBits, edgeWidths, fileWidths, flat, fileValues, lengthOf, written}
 use Rattle.layout.specs.Contents.{statesIn, labelsIn, startIn, countIn, coloursIn, placedAt, placedFrom, placedIn, edgeAt, edgesFrom, edgesIn, filterIn, lengthIn, fillingIn}
 use Rattle.refusals.specs.Refusals.{Outcome, accepted, refused, roomAfter}
-use Rattle.edges.specs.Faults.{edgeFault, firstFault}
+use Rattle.edges.specs.Faults.{edgeFault, firstFault, firstLeaving}
 use Rattle.files.specs.Files.{fileTests, checkOf}
 use Rattle.observed.specs.Observed.{firstOutside}
 use Rattle.tracing.specs.Tracing.{traceOf}
@@ -203,7 +204,7 @@ done r =
     }
 
 pub rides-hold : map done rides ≡ rides
-unfolding done reduceOf countsOf classList among meet visited walked reached any least count tab initial parted first free groups split round chosen begin cut run reduction classes number apart conflict live reduce nameOf mapped class-edge edge′ cell row listed merged reduced distinct bitAt field splice putBit putField fields putFields comesBefore samePlace headerBits edgeBits edgesBegin fileBits bytesFor fileLength fillBits edgeWidths fileWidths flat fileValues lengthOf written statesIn labelsIn startIn countIn coloursIn placedAt placedFrom placedIn edgeAt edgesFrom edgesIn filterIn lengthIn fillingIn edgeFault firstFault fileTests checkOf target edge colour ridden halted shown stops firstOutside traceOf
+unfolding done reduceOf countsOf classList among meet visited walked reached any least count tab initial parted first free groups split round chosen begin cut run reduction classes number apart conflict live reduce nameOf mapped class-edge edge′ cell row listed merged reduced distinct bitAt field splice putBit putField fields putFields comesBefore samePlace headerBits edgeBits edgesBegin fileBits bytesFor fileLength fillBits edgeWidths fileWidths flat fileValues lengthOf written statesIn labelsIn startIn countIn coloursIn placedAt placedFrom placedIn edgeAt edgesFrom edgesIn filterIn lengthIn fillingIn edgeFault firstFault leaves firstLeaving fileTests checkOf target edge colour ridden halted shown stops firstOutside traceOf
 rides-hold = refl
 
 -- ---- the two filters need not trace the same sequences

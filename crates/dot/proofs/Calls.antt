@@ -14,9 +14,10 @@ use Rattle.refusals.specs.Refusals.{Outcome, accepted, refused, refusalOutcome,
 use Rattle.refusals.proofs.Laws.{promise-refused, promise-accepted}
 use Rattle.layout.specs.declared.Profile.{Profile}
 use Rattle.layout.specs.declared.Reading.{Reading}
-use Rattle.layout.specs.Layout.{fileLength, lengthOf, written}
+use Rattle.layout.specs.Layout.{faultColour, fileLength, lengthOf, written}
 use Rattle.layout.specs.Contents.{startIn, labelsIn, edgesIn, filterIn}
-use Rattle.edges.specs.Faults.{listedFrom, firstFault, edgesThen}
+use Rattle.edges.specs.Faults.{listedFrom, orElse, firstFault, firstLeaving, edgesThen}
+use Rattle.edges.proofs.Leaving.{then-then}
 use Rattle.files.specs.Files.{holdable, writeTests, writeOf}
 use Rattle.files.specs.Tests.{ReadIs, held, Written, write-written}
 use Rattle.checking.specs.declared.Checked.{Checked}
@@ -68,12 +69,14 @@ module _ (P : Profile) (text : List ℕ) (s : Survey) (k : Known text s) where
       )
 
   pub onto-edges : (room : ℕ) → holdable P (coloursOf (readOf text)) (s .labels) ≡ true → s .edges ≤ s .states * s .labels →
+      let edges = listedFrom 0 (edgesOf (readOf text)) in
       fromDotOf P text room
-      ≡ edgesThen (firstFault (s .states) (s .labels) none (listedFrom 0 (edgesOf (readOf text))))
+      ≡ edgesThen (orElse (firstFault (s .states) (s .labels) none edges) (firstLeaving (faultColour P) (coloursOf (readOf text)) edges))
       (firstOf (roomTest (fileLength P (s .states) (s .edges)) room) (accepted (fileLength P (s .states) (s .edges) ∷ [])))
   unfolding writeOf writeTests lengthOf
   onto-edges room h l =
       let low = held P (coloursOf (readOf text)) (s .labels) h .states-low in
+      let edges = listedFrom 0 (edgesOf (readOf text)) in
       inside-is room
       ∙ rw (
         ← labels-are text s k,
@@ -82,7 +85,7 @@ module _ (P : Profile) (text : List ℕ) (s : Survey) (k : Known text s) where
         ← states-are text s k,
         ← edges-are text s k,
         le-ltb (s .states * s .labels) (s .edges) l,
-      )
+      ) (then-then (firstFault (s .states) (s .labels) none edges) (firstLeaving (faultColour P) (coloursOf (readOf text)) edges) _)
 
 -- a refusal leaves the room as found
 pub file-refused : (P : Profile) (text room : List ℕ) (r : Made) (why : Refusal) →

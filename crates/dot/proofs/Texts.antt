@@ -1,4 +1,4 @@
--- A text of the profile, its survey and the first fault of its edges.
+-- A text of the profile, its survey and the fault of its edges.
 -- Assumes nothing.
 use Prim.Native.Nat.{ℕ, suc, _^_, _≤_}
 use mathlib.Core.Path.{_≡_, refl, sym, ap, _∙_}
@@ -12,34 +12,36 @@ use borrow.Author.Tests.{ltb-true, ltb-false, le-leb, lt-leb, leb-true, leb-fals
 use Rattle.meaning.specs.Cases.{cases-of, impossible}
 use Rattle.meaning.specs.Filter.{Edge}
 use Rattle.layout.specs.declared.Profile.{Profile}
+use Rattle.layout.specs.Layout.{faultColour}
 use Rattle.layout.specs.Code.{Usable}
 use Rattle.edges.specs.declared.Verdict.{Verdict}
-use Rattle.edges.specs.Faults.{listedFrom, edgeFault, firstFault}
+use Rattle.edges.specs.Faults.{listedFrom, edgeFault, orElse, firstFault, firstLeaving}
 use Rattle.edges.specs.Walk.{faultOf}
 use Rattle.files.specs.Files.{within, allBelow, holdable}
 use Rattle.drawing.specs.Profile.{larger, labelsOf}
 use Rattle.drawing.specs.Reader.{Read, drawing, outside, coloursOf, edgesOf, readOf}
 use Rattle.drawing.specs.More.{larger-is}
 use Rattle.surveying.specs.declared.Survey.{Survey}
-use Rattle.surveying.specs.Surveys.{bound, surveyOf, smaller, faultAmong, surveyed, Known}
+use Rattle.surveying.specs.Surveys.{bound, surveyOf, smaller, faultAmong, faultIn, surveyed, Known}
 use Rattle.surveying.specs.Surveys as found
 use Rattle.dot.specs.Tests.{Testable}
 
 -- ---- surveys
 
 testable-as : (P : Profile) → Usable P → (text : List ℕ) (s : Survey) (v : Verdict) (r : Read) → readOf text ≡ r →
-    found.inside s (faultOf v) ≡ surveyed r → Testable P text s v
+    found.inside s (faultOf v) ≡ surveyed (faultColour P) r → Testable P text s v
 testable-as P ok text s v (drawing cs es) e h =
     let survey : s ≡ surveyOf cs es = cc in
-    let fault : faultOf v ≡ faultAmong (length cs) es = cc in
+    let fault : faultOf v ≡ faultIn (faultColour P) cs es = cc in
     record {
       usable = ok;
       known = record { colours = cs; edges = es; read = e; survey = survey };
-      fault = rw (e, ap (λ (x : Survey). x .states) survey) fault;
+      fault = rw e fault;
     }
 testable-as P ok text s v (outside p) e h = impossible cc
 
-pub testable-of : (P : Profile) → Usable P → (text : List ℕ) (s : Survey) (v : Verdict) → found.inside s (faultOf v) ≡ surveyed (readOf text) → Testable P text s v
+pub testable-of : (P : Profile) → Usable P → (text : List ℕ) (s : Survey) (v : Verdict) →
+    found.inside s (faultOf v) ≡ surveyed (faultColour P) (readOf text) → Testable P text s v
 testable-of P ok text s v h = testable-as P ok text s v (readOf text) refl h
 
 pub edges-are : (text : List ℕ) (s : Survey) → Known text s → s .edges ≡ length (edgesOf (readOf text))
@@ -51,12 +53,12 @@ states-are text s k = ap (λ (x : Survey). x .states) (k .survey) ∙ sym (ap (�
 pub labels-are : (text : List ℕ) (s : Survey) → Known text s → s .labels ≡ labelsOf (edgesOf (readOf text))
 labels-are text s k = ap (λ (x : Survey). x .labels) (k .survey) ∙ sym (ap (λ (r : Read). labelsOf (edgesOf r)) (k .read))
 
-outside-as : (text : List ℕ) (place : ℕ) (r : Read) → readOf text ≡ r → found.leaves place ≡ surveyed r → readOf text ≡ outside place
-outside-as text place (drawing cs es) e h = impossible cc
-outside-as text place (outside p) e h = e ∙ ap outside cc
+outside-as : (fault : Option ℕ) (text : List ℕ) (place : ℕ) (r : Read) → readOf text ≡ r → found.leaves place ≡ surveyed fault r → readOf text ≡ outside place
+outside-as fault text place (drawing cs es) e h = impossible cc
+outside-as fault text place (outside p) e h = e ∙ ap outside cc
 
-pub outside-of : (text : List ℕ) (place : ℕ) → found.leaves place ≡ surveyed (readOf text) → readOf text ≡ outside place
-outside-of text place h = outside-as text place (readOf text) refl h
+pub outside-of : (fault : Option ℕ) (text : List ℕ) (place : ℕ) → found.leaves place ≡ surveyed fault (readOf text) → readOf text ≡ outside place
+outside-of fault text place h = outside-as fault text place (readOf text) refl h
 
 -- ---- the largest number of some
 
@@ -105,11 +107,15 @@ fault-labels n m k i before (e ∷ es) hm hk =
       fault-labels n m k (suc i) (some e) es (omega (arith, is)) (omega (arith, is)),
     )
 
--- of a filter that a file can hold, the first fault is that of pack
-pub fault-is : (text : List ℕ) (s : Survey) → Known text s → s .states ≤ 256 → s .labels ≤ 256 →
-    faultAmong (s .states) (edgesOf (readOf text)) ≡ firstFault (s .states) (s .labels) none (listedFrom 0 (edgesOf (readOf text)))
-fault-is text s k n m =
+-- of a filter that a file can hold, the fault is that of pack
+pub fault-is : (fault : Option ℕ) (text : List ℕ) (s : Survey) → Known text s → s .states ≤ 256 → s .labels ≤ 256 →
+    let colours = coloursOf (readOf text) in
+    let edges = edgesOf (readOf text) in
+    faultIn fault colours edges ≡ orElse (firstFault (s .states) (s .labels) none (listedFrom 0 edges)) (firstLeaving fault colours (listedFrom 0 edges))
+fault-is fault text s k n m =
     let es = edgesOf (readOf text) in
     let labels = labels-are text s k in
+    let own : faultAmong (s .states) es ≡ firstFault (s .states) (s .labels) none (listedFrom 0 es) =
     ap (λ (j : ℕ). firstFault j 256 none (listedFrom 0 es)) (smaller-is (s .states) 256 n)
-    ∙ fault-labels (s .states) 256 (s .labels) 0 none es (omega (arith, labels)) (omega (arith, labels))
+    ∙ fault-labels (s .states) 256 (s .labels) 0 none es (omega (arith, labels)) (omega (arith, labels)) in
+    rw (← states-are text s k, own)

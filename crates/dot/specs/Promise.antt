@@ -26,7 +26,7 @@ madeOutcome (made.Refused r) = refusalOutcome r
 
 -- ---- a text becomes a file
 
--- 15 for text outside the profile; else what pack answers for the filter: 14, 2, 3, the edges, 10.
+-- 15 for text outside the profile; else what pack answers for the filter: 14, 2, 3, the edges, 17, 10.
 abbrev pub fileOutcome : Profile → Read → ℕ → Outcome
 fileOutcome P (drawing colours edges) room = writeOf P (filterOf colours edges) true room
 fileOutcome P (outside place) room = refused 15 place

@@ -29,9 +29,11 @@ pub enum Made {
 pub fn from_dot(text: &[u8], room: &mut [u8]) -> Made
     ensures { λ r. ⌜ FromDotPromise large (now (text .entry)) (now (room .entry)) r (now (room .exit)) ⌝ }
 {
-    let surveyed = surveying::survey_of(text);
+    let p = layout::large();
+    let fault = p.fault;
+    let surveyed = surveying::survey_of(text, fault);
     match surveyed {
-        Surveyed::Inside(s, verdict) => file(layout::large(), text, s, verdict, room),
+        Surveyed::Inside(s, verdict) => file(p, text, s, verdict, room),
         Surveyed::Outside(place) => Made::Refused(Refusal {
             kind: Kind::Drawing,
             place,

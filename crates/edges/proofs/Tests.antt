@@ -80,9 +80,27 @@ inside-clear n m before e h =
     let target = pick-clear (leb n (e .target .value)) _ (orderFault before e) (label .1) in
     (fields-inside n m e (source .0) (label .0) (target .0), target .1)
 
+-- an edge without a fault leads from a state to a state
+pub clear-ends : (n m : ℕ) (before : Option Edge) (e : Placed) → edgeFault n m before e ≡ none → (e .source .value < n) × (e .target .value < n)
+unfolding inside
+clear-ends n m before e h =
+    let s = ltb (e .source .value) n in
+    let l = ltb (e .label .value) m in
+    let t = ltb (e .target .value) n in
+    let all = inside-clear n m before e h .0 in
+    (ltb-true _ _ (and-left s (l && t) all), ltb-true _ _ (and-right l t (and-right s (l && t) all)))
+
 else-clear : (f next : Option Fault) → orElse f next ≡ none → (f ≡ none) × (next ≡ none)
 else-clear none next h = (refl, h)
 else-clear (some f) next h = impossible cc
+
+pub else-else : (a b c : Option Fault) → orElse a (orElse b c) ≡ orElse (orElse a b) c
+else-else none b c = refl
+else-else (some f) b c = refl
+
+pub else-none : (f : Option Fault) → orElse f none ≡ f
+else-none none = refl
+else-none (some f) = refl
 
 -- the first fault is the first edge's, or there is none there and it is the next one
 pub else-cases : {A : Type 0} (o next : Option Fault) (f : Fault) → orElse o next ≡ some f → (o ≡ some f → A) → (o ≡ none → next ≡ some f → A) → A

@@ -1,12 +1,14 @@
--- Faults of edges, 7, 8 and 9, each with its place: of one edge behind the edge before it, and the first of some edges (document 01,
--- "Numbers of refusal"; document 02, "Say where in the bits").
+-- Faults of edges, each with its place: 7, 8 and 9 of one edge behind the edge before it, and the first of some edges; 17 of some edges
+-- (document 01, "Numbers of refusal"; document 02, "Say where in the bits", "A fault stays a fault").
 -- Assumes nothing.
 use Prim.Native.Nat.{ℕ, suc}
 use mathlib.Core.List.{List, [], _∷_}
 use mathlib.Core.Option.{Option, none, some}
 use lib.Dec.{leb}
 use Rattle.meaning.specs.Pick.{pick}
+use Rattle.meaning.specs.Search.{at}
 use Rattle.meaning.specs.Filter.{Edge, comesBefore, samePlace}
+use Rattle.meaning.specs.Fault.{leaves}
 use Rattle.refusals.specs.Refusals.{Outcome, refused}
 use Rattle.layout.specs.declared.Field.{Field}
 use Rattle.layout.specs.declared.edge.Placed.{Placed}
@@ -64,6 +66,12 @@ orElse none next = next
 unfoldable pub firstFault : ℕ → ℕ → Option Edge → List Placed → Option Fault
 firstFault n m before [] = none
 firstFault n m before (e ∷ es) = orElse (edgeFault n m before e) (firstFault n m (some (values e)) es)
+
+-- 17: the first of some edges that leaves the fault colour, if there is such a colour; at the edge's source field.
+unfoldable pub firstLeaving : Option ℕ → List ℕ → List Placed → Option Fault
+firstLeaving fault colours [] = none
+firstLeaving fault colours (e ∷ es) =
+    pick (leaves fault (at colours) (values e)) (faulty 17 (e .source)) (firstLeaving fault colours es)
 
 -- A fault is refused at its place; without one, what follows.
 abbrev pub edgesThen : Option Fault → Outcome → Outcome

@@ -1,4 +1,4 @@
-// Edges tested one behind another: 7, 8 and 9, and the cursor that walks over a file's edges.
+// Edges tested one behind another: 7, 8 and 9, the first of several that get 17, and the cursor that walks over a file's edges.
 use layout::Field;
 use layout::Profile;
 use layout::edge::Edge;
@@ -8,10 +8,10 @@ use refusals::Refusal;
 ghost use mathlib.Core.Path.{_≡_};
 ghost use mathlib.Core.Option.{some};
 ghost use Rattle.layout.specs.Code.{edgeOf, bare, Small};
-ghost use Rattle.edges.specs.Faults.{listedAt};
-ghost use Rattle.edges.specs.Walk.{rankOf, Tested, Passable, behind};
+ghost use Rattle.edges.specs.Faults.{listedAt, orElse};
+ghost use Rattle.edges.specs.Walk.{rankOf, faultOf, Tested, Passable, behind};
 
-// What the test of an edge finds: none of 7, 8 and 9, or the first of them.
+// What tests of edges find: none of the faults, or the first of them.
 pub enum Verdict {
     Faultless,
     Faulty(Refusal),
@@ -77,6 +77,16 @@ pub fn test(n: usize, m: usize, last: usize, edge: Placed) -> Verdict
         return faulty(Kind::Repeated, source.place);
     }
     Verdict::Faultless
+}
+
+// With one more edge that leaves the fault colour, at a place: the first that was found.
+pub fn or_leaving(found: Verdict, place: usize) -> Verdict
+    ensures { λ r. ⌜ faultOf r ≡ orElse (faultOf found) (some (record { number = 17; place = place })) ⌝ }
+{
+    let Verdict::Faultless = found else {
+        return found;
+    };
+    faulty(Kind::Leaving, place)
 }
 
 // Where a walk over a file's edges stands: the rank of the edge before, the bit at which the next one begins, and its index.

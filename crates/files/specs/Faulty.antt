@@ -1,8 +1,8 @@
--- Where a file is refused with 7, 8 or 9 at a place, the bits at that place are the faulty field: the first one of the first faulty edge
--- (document 02, "Say where in the bits").
+-- Where a file is refused with 7, 8 or 9 at a place, the bits at that place are the faulty field: the first one of the first faulty edge; and
+-- with 17, the source of the first edge that leaves the fault colour (document 02, "Say where in the bits", "A fault stays a fault").
 -- Assumes nothing.
 use Prim.Native.Nat.{ℕ, zero, suc, _+_, _*_, _≤_, _<_}
-use mathlib.Core.Path.{_≡_, refl}
+use mathlib.Core.Path.{_≡_, refl, sym, _∙_}
 use mathlib.Core.Bool.{Bool, true}
 use mathlib.Core.List.{List}
 use mathlib.Core.Option.{Option, none, some}
@@ -13,16 +13,18 @@ use lib.ListN.{length}
 use borrow.Author.Tests.{lt-ltb, leb-true, leb-false, ltb-false}
 use Rattle.bits.specs.Bits.{field}
 use Rattle.meaning.specs.Cases.{impossible, cases-of}
+use Rattle.meaning.specs.Search.{at}
 use Rattle.meaning.specs.Filter.{Edge, inside, comesBefore, samePlace}
-use Rattle.refusals.specs.Refusals.{accepted, refused}
+use Rattle.meaning.specs.Fault.{leaves}
+use Rattle.refusals.specs.Refusals.{Outcome, refused}
 use Rattle.refusals.proofs.Laws.{numbersBelow, first-behind}
 use Rattle.layout.specs.declared.Profile.{Profile}
 use Rattle.layout.specs.declared.edge.Placed.{Placed}
-use Rattle.layout.specs.Layout.{edgeBits, edgesBegin, fileBits, bytesFor, fileLength}
-use Rattle.layout.specs.Contents.{statesIn, labelsIn, countIn, values, placedAt, placedFrom, placedIn, edgeAt, lengthIn}
-use Rattle.edges.specs.Faults.{Fault, faulty, orderFault, edgeFault, firstFault, edgesThen}
+use Rattle.layout.specs.Layout.{faultColour, edgeBits, edgesBegin, fileBits, bytesFor, fileLength}
+use Rattle.layout.specs.Contents.{statesIn, labelsIn, countIn, coloursIn, values, placedAt, placedFrom, placedIn, edgeAt, lengthIn}
+use Rattle.edges.specs.Faults.{Fault, faulty, orderFault, edgeFault, firstFault, firstLeaving, edgesThen}
 use Rattle.edges.proofs.Tests.{fields-inside, else-cases}
-use Rattle.files.specs.Files.{fileTests, numbersIn, fromEdges, checkOf}
+use Rattle.files.specs.Files.{fileTests, fromEdges, checkOf}
 
 -- The position of edge i's first bit.
 abbrev pub edgeBegins : Profile → List ℕ → ℕ → ℕ
@@ -52,11 +54,21 @@ pub record NotBehind (fault : Edge → Edge → Bool) (P : Profile) (file : List
   pub within : inside (statesIn P file) (labelsIn P file) (edgeAt P file place) ≡ true
   pub holds : fault (edgeAt P file place) (edgeAt P file (edgeBegins P file index)) ≡ true
 
+-- 17: no edge has a fault of its own, and the edge whose source stands at the place is the first that leaves the fault colour.
+pub record LeavesFault (P : Profile) (file : List ℕ) (place : ℕ) : Type 0 where
+  pub index : ℕ
+  pub inside : index < countIn P file
+  pub clear : firstFault (statesIn P file) (labelsIn P file) none (placedIn P file) ≡ none
+  pub earlier : firstLeaving (faultColour P) (coloursIn P file) (placedFrom P file (edgesBegin P (statesIn P file)) index) ≡ none
+  pub source-at : place ≡ edgeBegins P file index
+  pub goes : leaves (faultColour P) (at (coloursIn P file)) (edgeAt P file place) ≡ true
+
 -- What stands at the place of a refusal of a file's edges.
 pub data FaultyField (P : Profile) (file : List ℕ) (number place : ℕ) : Type 0 where
   outside : number ≡ 7 → Outside P file place → FaultyField P file number place
   disorder : number ≡ 8 → NotBehind comesBefore P file place → FaultyField P file number place
   repetition : number ≡ 9 → NotBehind samePlace P file place → FaultyField P file number place
+  leaving : number ≡ 17 → LeavesFault P file place → FaultyField P file number place
 
 -- ---- the fault of one edge
 
@@ -81,6 +93,9 @@ edge-faulty n m before e f h = cases-of (leb n (e .source .value)) (λ q. source
     cases-of (leb m (e .label .value)) (λ t. label low (leb-true _ _ t) (rw (q, t) at h))
     (λ t. cases-of (leb n (e .target .value)) (λ u. target low (leb-false _ _ t) (leb-true _ _ u) (rw (q, t, u) at h))
     (λ u. order-faulty n m before e f (fields-inside n m e q t u) (rw (q, t, u) at h))))
+
+pub fault-is : {k place : ℕ} (f : Fault) → some (record { number = k; place = place }) ≡ some f → (f .number ≡ k) × (f .place ≡ place)
+fault-is f is = (cc, cc)
 
 -- ---- the first fault of a file's edges
 
@@ -123,17 +138,52 @@ module _ (P : Profile) (file : List ℕ) (n m : ℕ) where
         fault = rw (← before-next P file before at (r .index), ← k) (r .fault);
       })
 
+-- ---- the first edge of a file that leaves the fault colour
+
+-- among e edges, the first of which begins at bit `begin`
+module _ (P : Profile) (file : List ℕ) (fault : Option ℕ) (colours : List ℕ) where
+  pub record FirstToLeave (begin e : ℕ) (f : Fault) : Type 0 where
+    pub index : ℕ
+    pub inside : index < e
+    pub earlier : firstLeaving fault colours (placedFrom P file begin index) ≡ none
+    pub goes : leaves fault (at colours) (edgeAt P file (begin + edgeBits P * index)) ≡ true
+    pub number : f .number ≡ 17
+    pub place : f .place ≡ begin + edgeBits P * index
+
+  pub first-to-leave : (begin e : ℕ) (f : Fault) → firstLeaving fault colours (placedFrom P file begin e) ≡ some f → FirstToLeave begin e f
+  unfolding placedFrom firstLeaving edgeAt placedAt
+  first-to-leave begin zero f h = impossible cc
+  first-to-leave begin (suc e) f h = cases-of (leaves fault (at colours) (values (placedAt P file begin)))
+      (λ q. let is = fault-is f (rw q at h) in
+      record {
+        index = 0;
+        inside = omega arith;
+        earlier = refl;
+        goes = rw (mul-zero (edgeBits P), add-zero begin) q;
+        number = is .0;
+        place = is .1 ∙ sym (rw (mul-zero (edgeBits P), add-zero begin));
+      })
+      (λ q. let r = first-to-leave (begin + edgeBits P) e f (rw q at h) in
+      let k : begin + edgeBits P + edgeBits P * r .index ≡ begin + edgeBits P * suc (r .index) = omega (arith, mul-suc (edgeBits P) (r .index)) in
+      record {
+        index = suc (r .index);
+        inside = omega (arith, r .inside);
+        earlier = rw q (r .earlier);
+        goes = rw (← k) (r .goes);
+        number = r .number;
+        place = r .place ∙ k;
+      })
+
 -- ---- what a refusal names
 
-edges-refused : (o : Option Fault) (vs : List ℕ) (k p : ℕ) → edgesThen o (accepted vs) ≡ refused k p → o ≡ some (record { number = k; place = p })
-edges-refused none vs k p h = impossible cc
-edges-refused (some f) vs k p h =
+-- a refusal that edges lead to is their first fault's, or comes from what follows
+edges-refused : {A : Type 0} (o : Option Fault) (next : Outcome) (k p : ℕ) → edgesThen o next ≡ refused k p →
+    (o ≡ some (record { number = k; place = p }) → A) → (o ≡ none → next ≡ refused k p → A) → A
+edges-refused none next k p h here later = later refl h
+edges-refused (some f) next k p h here later =
     let a : f .number ≡ k = cc in
     let b : f .place ≡ p = cc in
-    rw (← a, ← b)
-
-pub fault-is : {k place : ℕ} (f : Fault) → some (record { number = k; place = place }) ≡ some f → (f .number ≡ k) × (f .place ≡ place)
-fault-is f is = (cc, cc)
+    here (rw (← a, ← b))
 
 module _ (P : Profile) (file : List ℕ) where
   abbrev before : ℕ → Option Edge
@@ -172,19 +222,32 @@ module _ (P : Profile) (file : List ℕ) where
         lt-ltb 6 k (omega arith),
       )
 
-  -- a file that is refused with a number above 6 is refused with 7, 8 or 9, and has the faulty field at the place
+  -- a file that is refused with a number above 6 is refused with 7, 8, 9 or 17, and has the faulty field at the place
   pub faulty-field : (number place : ℕ) → 6 < number → checkOf P file ≡ refused number place → FaultyField P file number place
   unfolding checkOf fileTests placedIn lengthIn fileLength bytesFor fileBits
   faulty-field number place above h =
       let p = first-behind (fileTests P file) (fromEdges P file) number place (tests-below number above) h in
       let f : Fault = record { number = number; place = place } in
-      let first = first-of P file (statesIn P file) (labelsIn P file) none (edgesBegin P (statesIn P file)) (countIn P file) f
-      (edges-refused _ (numbersIn P file) number place (p .1)) in
+      let begin = edgesBegin P (statesIn P file) in
       let long = ltb-false (length file) (lengthIn P file) (p .0 .1 .1 .1 .0) in
+      edges-refused _ _ number place (p .1)
+      (λ faults.
+      let first = first-of P file (statesIn P file) (labelsIn P file) none begin (countIn P file) f faults in
       let fits : edgeBits P * suc (first .index) ≤ edgeBits P * countIn P file = mul-le-mul (le-refl (edgeBits P)) (omega (arith, first .inside)) in
       let there : ClearBefore P file (first .index) = record {
         inside = first .inside;
         bits = omega (arith, long, fits, mul-suc (edgeBits P) (first .index));
         clear = first .clear;
       } in
-      field-named (first .index) f there (first .fault)
+      field-named (first .index) f there (first .fault))
+      (λ clear rest. edges-refused _ _ number place rest
+      (λ leaves. let first = first-to-leave P file (faultColour P) (coloursIn P file) begin (countIn P file) f leaves in
+      leaving (first .number) (record {
+        index = first .index;
+        inside = first .inside;
+        clear = clear;
+        earlier = first .earlier;
+        source-at = first .place;
+        goes = rw (first .place) (first .goes);
+      }))
+      (λ _ z. impossible cc))

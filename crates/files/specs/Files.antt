@@ -1,5 +1,5 @@
 -- What a file, and a filter that is to be written as one, are refused for: each test in its order, the first that holds decides
--- (document 01, "Numbers of refusal"). Document 01 speaks of the profile `large`, document 02 adds `pocket`.
+-- (document 01, "Numbers of refusal"). Document 01 speaks of the profile `large`, document 02 adds `pocket` and 17.
 -- Assumes nothing.
 use Prim.Native.Nat.{ℕ, _*_, _^_}
 use mathlib.Core.Bool.{Bool, true, not, _&&_}
@@ -11,9 +11,9 @@ use Rattle.meaning.specs.Filter.{Filter, states}
 use Rattle.refusals.specs.Refusals.{Outcome, accepted, Test, test, firstOf, roomTest}
 use Rattle.layout.specs.declared.Profile.{Profile}
 use Rattle.layout.specs.declared.Reading.{Reading}
-use Rattle.layout.specs.Layout.{headerBits, bytesFor, lengthOf}
-use Rattle.layout.specs.Contents.{statesIn, labelsIn, startIn, countIn, placedIn, lengthIn, fillingIn}
-use Rattle.edges.specs.Faults.{listedFrom, firstFault, edgesThen}
+use Rattle.layout.specs.Layout.{faultColour, headerBits, bytesFor, lengthOf}
+use Rattle.layout.specs.Contents.{statesIn, labelsIn, startIn, countIn, coloursIn, placedIn, lengthIn, fillingIn}
+use Rattle.edges.specs.Faults.{listedFrom, firstFault, firstLeaving, edgesThen}
 
 -- ---- a file
 
@@ -40,10 +40,17 @@ readingOutcome r = accepted (r .states ∷ r .labels ∷ r .start ∷ r .edges �
 unfoldable pub headOf : Profile → List ℕ → Outcome
 headOf P file = firstOf (fileTests P file) (accepted (numbersIn P file))
 
+-- 17, when every edge has passed 7, 8 and 9
+abbrev pub fromLeaving : Profile → List ℕ → Outcome
+fromLeaving P file =
+    edgesThen (firstLeaving (faultColour P) (coloursIn P file) (placedIn P file))
+    (accepted (numbersIn P file))
+
+-- 7, 8 and 9 of the edges, then 17
 abbrev pub fromEdges : Profile → List ℕ → Outcome
 fromEdges P file =
     edgesThen (firstFault (statesIn P file) (labelsIn P file) none (placedIn P file))
-    (accepted (numbersIn P file))
+    (fromLeaving P file)
 
 unfoldable pub checkOf : Profile → List ℕ → Outcome
 checkOf P file = firstOf (fileTests P file) (fromEdges P file)
@@ -71,9 +78,10 @@ writeTests P F whole =
     ∷ test 3 (ltb (states F * F .labels) (length (F .edges)))
     ∷ []
 
--- 14, 2, 3, the edges, 10
+-- 14, 2, 3, the edges, 17, 10
 unfoldable pub writeOf : Profile → Filter → Bool → ℕ → Outcome
 writeOf P F whole room =
     firstOf (writeTests P F whole)
     (edgesThen (firstFault (states F) (F .labels) none (listedFrom 0 (F .edges)))
-    (firstOf (roomTest (lengthOf P F) room) (accepted (lengthOf P F ∷ []))))
+    (edgesThen (firstLeaving (faultColour P) (F .colours) (listedFrom 0 (F .edges)))
+    (firstOf (roomTest (lengthOf P F) room) (accepted (lengthOf P F ∷ [])))))

@@ -12,21 +12,23 @@ use lib.Dec.{ltb}
 use lib.ListN.{length}
 use borrow.Author.Tests.{ltb-true}
 use Rattle.meaning.specs.Pick.{pick}
-use Rattle.meaning.specs.Cases.{impossible, and-left, and-right}
+use Rattle.meaning.specs.Cases.{impossible, cases-of, and-left, and-right}
+use Rattle.meaning.specs.Search.{at}
 use Rattle.meaning.specs.Filter.{Edge}
+use Rattle.meaning.specs.Fault.{leaves}
 use Rattle.refusals.specs.Refusals.{Outcome, accepted, refused, Test, firstOf, onward}
 use Rattle.refusals.proofs.Laws.{Passed, numbersBelow}
 use Rattle.layout.specs.declared.Profile.{Profile}
 use Rattle.layout.specs.declared.Field.{Field}
 use Rattle.layout.specs.declared.edge.Placed.{Placed}
-use Rattle.layout.specs.Layout.{edgeBits, edgesBegin}
+use Rattle.layout.specs.Layout.{faultColour, edgeBits, edgesBegin}
 use Rattle.layout.specs.Code.{Usable}
-use Rattle.layout.specs.Contents.{statesIn, labelsIn, countIn, placedAt, placedIn}
+use Rattle.layout.specs.Contents.{statesIn, labelsIn, countIn, coloursIn, placedAt, placedIn}
 use Rattle.layout.proofs.Bounds.{states-high, count-high, edge-high, begin-high}
-use Rattle.edges.specs.Faults.{listedAt, listedFrom, Fault, faulty, edgeFault, firstFault, edgesThen}
+use Rattle.edges.specs.Faults.{listedAt, listedFrom, Fault, faulty, edgeFault, firstFault, firstLeaving, edgesThen}
 use Rattle.edges.proofs.Tests.{else-cases}
 use Rattle.files.specs.Files.{fileTests, checkOf}
-use Rattle.files.specs.Faulty.{Faulty, source, label, target, order, repeated, edge-faulty, fault-is, first-of}
+use Rattle.files.specs.Faulty.{Faulty, source, label, target, order, repeated, edge-faulty, fault-is, first-of, first-to-leave}
 
 abbrev pub Small : Outcome → Type 0
 Small o = (number place : ℕ) → o ≡ refused number place → (number < 100) × (place < 1000000)
@@ -77,6 +79,14 @@ pub small-edges : (fault : Option Fault) (next : Outcome) → ((f : Fault) → f
 small-edges none next h k = k
 small-edges (some f) next h k = let s = h f refl in small-at (f .number) (f .place) (omega (arith, s .0)) (s .1)
 
+-- 17 at a place below a limit
+abbrev pub LeavingBelow : ℕ → Fault → Type 0
+LeavingBelow limit f = (f .number ≡ 17) × (f .place < limit)
+
+pub small-leaving : (fault : Option Fault) (next : Outcome) → ((f : Fault) → fault ≡ some f → LeavingBelow 1000000 f) → Small next → Small (edgesThen fault next)
+small-leaving none next h k = k
+small-leaving (some f) next h k = let s = h f refl in small-at (f .number) (f .place) (omega (arith, s .0)) (s .1)
+
 -- the place of a list's fault is the index of an edge
 pub listed-small : (n m i : ℕ) (before : Option Edge) (es : List Edge) (f : Fault) → firstFault n m before (listedFrom i es) ≡ some f → SmallFault (i + length es) f
 unfolding firstFault listedFrom
@@ -86,21 +96,39 @@ listed-small n m i before (d ∷ es) f e =
     (λ q. faulty-small n m (i + length (d ∷ es)) before (listedAt i d) f (omega arith) (omega arith) (omega arith) (edge-faulty n m before (listedAt i d) f q))
     (λ q rest. let r = listed-small n m (suc i) (some d) es f rest in (r .0, omega (arith, r .1)))
 
+pub listed-leaving : (fault : Option ℕ) (colours : List ℕ) (i : ℕ) (es : List Edge) (f : Fault) → firstLeaving fault colours (listedFrom i es) ≡ some f → LeavingBelow (i + length es) f
+unfolding firstLeaving listedFrom
+listed-leaving fault colours i [] f e = impossible cc
+listed-leaving fault colours i (d ∷ es) f e = cases-of (leaves fault (at colours) d)
+    (λ q. let is = fault-is f (rw q at e) in (is .0, omega (arith, is .1)))
+    (λ q. let r = listed-leaving fault colours (suc i) es f (rw q at e) in (r .0, omega (arith, r .1)))
+
 -- ---- of a file
 
 module _ (P : Profile) (ok : Usable P) where
   -- a file states at most 32,767 edges, behind at most 256 colours
+  edge-begins : (s : List ℕ) (i : ℕ) → i < countIn P s → edgesBegin P (statesIn P s) + edgeBits P * i < 999000
+  edge-begins s i l =
+      let begin = begin-high P ok (statesIn P s) (states-high P ok s) in
+      let most : i ≤ 32767 = omega (arith, count-high P ok s) in
+      let behind : edgeBits P * i ≤ 24 * 32767 = mul-le-mul (edge-high P ok) most in
+      omega (arith, begin, behind)
+
   placed-small : (s : List ℕ) (f : Fault) → firstFault (statesIn P s) (labelsIn P s) none (placedIn P s) ≡ some f → SmallFault 1000000 f
   unfolding placedIn placedAt
   placed-small s f e =
       let first = first-of P s (statesIn P s) (labelsIn P s) none (edgesBegin P (statesIn P s)) (countIn P s) f e in
-      let begin = begin-high P ok (statesIn P s) (states-high P ok s) in
-      let most : first .index ≤ 32767 = omega (arith, first .inside, count-high P ok s) in
-      let behind : edgeBits P * first .index ≤ 24 * 32767 = mul-le-mul (edge-high P ok) most in
+      let low = edge-begins s (first .index) (first .inside) in
       let wide = ok .states≤ in
       let high = ok .labels≤ in
-      faulty-small _ _ 1000000 _ _ f (omega (arith, begin, behind)) (omega (arith, begin, behind, wide)) (omega (arith, begin, behind, wide, high)) (first .fault)
+      faulty-small _ _ 1000000 _ _ f (omega (arith, low)) (omega (arith, low, wide)) (omega (arith, low, wide, high)) (first .fault)
+
+  leaving-small : (s : List ℕ) (f : Fault) → firstLeaving (faultColour P) (coloursIn P s) (placedIn P s) ≡ some f → LeavingBelow 1000000 f
+  unfolding placedIn
+  leaving-small s f e =
+      let first = first-to-leave P s (faultColour P) (coloursIn P s) (edgesBegin P (statesIn P s)) (countIn P s) f e in
+      (first .number, omega (arith, first .place, edge-begins s (first .index) (first .inside)))
 
   pub check-small : (s : List ℕ) → Small (checkOf P s)
   unfolding checkOf fileTests
-  check-small s = small-first (fileTests P s) _ refl λ _. small-edges _ _ (placed-small s) (small-accepted _)
+  check-small s = small-first (fileTests P s) _ refl λ _. small-edges _ _ (placed-small s) (small-leaving _ _ (leaving-small s) (small-accepted _))

@@ -3,27 +3,50 @@
 use mathlib.Core.Path.{_≡_, refl, sym, ap, _∙_}
 use mathlib.Core.Bool.{Bool, true, _&&_}
 use mathlib.Core.List.{List, [], _∷_, map}
-use mathlib.Core.Option.{none}
-use Prim.Native.Nat.{ℕ, _*_, _^_, _≤_, _<_}
+use mathlib.Core.Option.{Option, none, some}
+use Prim.Native.Nat.{ℕ, zero, suc, _*_, _^_, _≤_, _<_}
+use native.Mathlib.Nat.{lt-of-lt-of-le}
 use native.Mathlib.Omega.{arith}
-use lib.Dec.{eqb, leb}
-use lib.ListN.{length}
-use borrow.Author.Tests.{lt-ltb, le-ltb, le-leb, lt-leb, eq-eqb, ltb-false, leb-true, leb-false, eqb-true, not-false}
+use lib.Dec.{eqb, leb, ltb}
+use lib.ListN.{length, getD}
+use lib.Pow.{pow-pos}
+use borrow.Author.Tests.{lt-ltb, le-ltb, le-leb, lt-leb, eq-eqb, ne-eqb, ltb-true, ltb-false, leb-true, leb-false, eqb-true, not-false}
 use Rattle.meaning.specs.Cases.{and-left, and-right}
-use Rattle.meaning.specs.Filter.{Filter, states, inOrder}
+use Rattle.meaning.specs.Filter.{Edge, Filter, states, each, inOrder}
+use Rattle.meaning.specs.Trace.{colour}
+use Rattle.meaning.specs.Fault.{leaves, stays, faultStays}
 use Rattle.refusals.specs.declared.Refusal.{Refusal}
 use Rattle.refusals.specs.Refusals.{accepted, refusalOutcome, onward, roomTest}
 use Rattle.refusals.proofs.Laws.{first-accepted, first-passed, first-onward}
 use Rattle.layout.specs.declared.Profile.{Profile}
 use Rattle.layout.specs.declared.Reading.{Reading}
-use Rattle.layout.specs.Layout.{headerBits, bytesFor, edgesBegin, lengthOf}
-use Rattle.layout.specs.Contents.{statesIn, labelsIn, startIn, countIn, placedFrom, placedIn, values, edgesFrom, edgesIn, lengthIn, fillingIn}
-use Rattle.edges.specs.Faults.{listedFrom, firstFault}
+use Rattle.layout.specs.Layout.{faultColour, headerBits, bytesFor, edgesBegin, lengthOf}
+use Rattle.layout.specs.Contents.{statesIn, labelsIn, startIn, countIn, coloursIn, placedFrom, placedIn, values, edgesFrom, edgesIn, filterIn, lengthIn, fillingIn}
+use Rattle.edges.specs.Faults.{listedFrom, Fault, firstFault, firstLeaving, edgesThen}
 use Rattle.edges.specs.Walk.{faultIs}
 use Rattle.edges.proofs.Tests.{edges-accepted, listed-values, InOrder, fault-free}
-use Rattle.files.specs.Files.{readingOutcome, fileTests, numbersIn, headOf, fromEdges, checkOf, within, allBelow, holdable, writeTests, writeOf}
+use Rattle.edges.proofs.Leaving.{leaving-stays, stays-leaving}
+use Rattle.files.specs.Files.{readingOutcome, fileTests, numbersIn, headOf, fromLeaving, fromEdges, checkOf, within, allBelow, holdable, writeTests, writeOf}
 
 -- ---- a file
+
+-- no edge leaves the fault colour, of the edges in the file and of the filter's
+file-stays : (P : Profile) (s : List ℕ) → firstLeaving (faultColour P) (coloursIn P s) (placedIn P s) ≡ none → faultStays (faultColour P) (filterIn P s) ≡ true
+unfolding faultStays colour filterIn edgesIn
+file-stays P s h = leaving-stays (faultColour P) (coloursIn P s) (placedIn P s) h
+
+stays-file : (P : Profile) (s : List ℕ) → faultStays (faultColour P) (filterIn P s) ≡ true → firstLeaving (faultColour P) (coloursIn P s) (placedIn P s) ≡ none
+unfolding faultStays colour filterIn edgesIn
+stays-file P s h = stays-leaving (faultColour P) (coloursIn P s) (placedIn P s) h
+
+-- the same of a filter that is to be written
+pub list-stays : (fault : Option ℕ) (F : Filter) → firstLeaving fault (F .colours) (listedFrom 0 (F .edges)) ≡ none → faultStays fault F ≡ true
+unfolding faultStays colour
+list-stays fault F h = rw (listed-values 0 (F .edges)) at (leaving-stays fault (F .colours) (listedFrom 0 (F .edges)) h)
+
+stays-list : (fault : Option ℕ) (F : Filter) → faultStays fault F ≡ true → firstLeaving fault (F .colours) (listedFrom 0 (F .edges)) ≡ none
+unfolding faultStays colour
+stays-list fault F h = stays-leaving fault (F .colours) (listedFrom 0 (F .edges)) (rw (sym (listed-values 0 (F .edges))) at h)
 
 -- What an accepted file has passed.
 pub record Sound (P : Profile) (s : List ℕ) : Type 0 where
@@ -33,13 +56,15 @@ pub record Sound (P : Profile) (s : List ℕ) : Type 0 where
   pub long : length s ≡ lengthIn P s
   pub filled : fillingIn P s ≡ 0
   pub clear : firstFault (statesIn P s) (labelsIn P s) none (placedIn P s) ≡ none
+  pub stays : faultStays (faultColour P) (filterIn P s) ≡ true
 
 pub check-sound : (P : Profile) (s vs : List ℕ) → checkOf P s ≡ accepted vs → Sound P s × (numbersIn P s ≡ vs)
 unfolding checkOf fileTests
 check-sound P s vs h =
     let p = first-accepted (fileTests P s) (fromEdges P s) vs h in
     let t = p .0 in
-    let q = edges-accepted (firstFault (statesIn P s) (labelsIn P s) none (placedIn P s)) (accepted (numbersIn P s)) vs (p .1) in (
+    let q = edges-accepted (firstFault (statesIn P s) (labelsIn P s) none (placedIn P s)) (fromLeaving P s) vs (p .1) in
+    let l = edges-accepted (firstLeaving (faultColour P) (coloursIn P s) (placedIn P s)) (accepted (numbersIn P s)) vs (q .1) in (
       record {
         begins = ltb-false (length s) (bytesFor (headerBits P)) (t .0);
         start-in = leb-false (statesIn P s) (startIn P s) (t .1 .0);
@@ -47,8 +72,9 @@ check-sound P s vs h =
         long = omega (arith, ltb-false (length s) (lengthIn P s) (t .1 .1 .1 .0), ltb-false (lengthIn P s) (length s) (t .1 .1 .1 .1 .0));
         filled = eqb-true (fillingIn P s) 0 (not-false (eqb (fillingIn P s) 0) (t .1 .1 .1 .1 .1 .0));
         clear = q .0;
+        stays = file-stays P s (l .0);
       },
-      cc (q .1),
+      cc (l .1),
     )
 
 pub sound-check : (P : Profile) (s : List ℕ) → Sound P s → checkOf P s ≡ accepted (numbersIn P s)
@@ -57,7 +83,7 @@ sound-check P s h =
     let e : eqb (fillingIn P s) 0 ≡ true = eq-eqb (fillingIn P s) 0 (h .filled) in
     first-passed (fileTests P s) (fromEdges P s)
     (le-ltb _ _ (h .begins), (lt-leb _ _ (h .start-in), (le-ltb _ _ (h .count-in), (le-ltb (length s) (lengthIn P s) (omega (arith, h .long)), (le-ltb (lengthIn P s) (length s) (omega (arith, h .long)), (rw e, tt))))))
-    ∙ rw (h .clear)
+    ∙ rw (h .clear, stays-file P s (h .stays))
 
 -- The numbers of a reading are the file's.
 pub record ReadIs (P : Profile) (s : List ℕ) (r : Reading) : Type 0 where
@@ -129,9 +155,12 @@ module _ (P : Profile) (s : List ℕ) (r : Reading) (is : HeadIs P s r) (at : �
   faults-read : firstFault (r .states) (r .labels) none (placedFrom P s at (r .edges)) ≡ firstFault (statesIn P s) (labelsIn P s) none (placedIn P s)
   faults-read = rw (placed-read, is .states-are, is .labels-are)
 
-  pub check-faultless : firstFault (r .states) (r .labels) none (placedFrom P s at (r .edges)) ≡ none → checkOf P s ≡ readingOutcome r
-  check-faultless h =
-      is .onto-edges ∙ rw (sym faults-read ∙ h) (ap accepted (sym (rw (is .states-are, is .labels-are, is .start-is, is .count-is))))
+  -- without a fault of its own in any edge, 17 decides
+  pub check-faultless : firstFault (r .states) (r .labels) none (placedFrom P s at (r .edges)) ≡ none → (leaving : Option Fault) →
+      firstLeaving (faultColour P) (coloursIn P s) (placedFrom P s at (r .edges)) ≡ leaving → checkOf P s ≡ edgesThen leaving (readingOutcome r)
+  check-faultless h leaving l =
+      is .onto-edges ∙ rw (sym faults-read ∙ h, sym (ap (firstLeaving (faultColour P) (coloursIn P s)) placed-read) ∙ l)
+      (ap (λ (vs : List ℕ). edgesThen leaving (accepted vs)) (sym (rw (is .states-are, is .labels-are, is .start-is, is .count-is))))
 
   pub check-faulty : (why : Refusal) → firstFault (r .states) (r .labels) none (placedFrom P s at (r .edges)) ≡ faultIs why → checkOf P s ≡ refusalOutcome why
   check-faulty why h = is .onto-edges ∙ rw (sym faults-read ∙ h)
@@ -148,6 +177,7 @@ pub record Writable (P : Profile) (F : Filter) : Type 0 where
   pub start-in : F .start < states F
   pub count-in : length (F .edges) ≤ states F * F .labels
   pub clear : firstFault (states F) (F .labels) none (listedFrom 0 (F .edges)) ≡ none
+  pub stays : faultStays (faultColour P) F ≡ true
 
 -- its edges are inside and ascend strictly
 pub writable-edges : (P : Profile) (F : Filter) → Writable P F → InOrder (states F) (F .labels) none (F .edges)
@@ -185,8 +215,8 @@ held P colours m h =
 
 -- what the widths can hold, and is in order, can be written
 held-in-order : (P : Profile) (F : Filter) → Held P (F .colours) (F .labels) → F .start < states F → length (F .edges) ≤ states F * F .labels →
-    firstFault (states F) (F .labels) none (listedFrom 0 (F .edges)) ≡ none → Writable P F
-held-in-order P F k starts few clear = record {
+    firstFault (states F) (F .labels) none (listedFrom 0 (F .edges)) ≡ none → faultStays (faultColour P) F ≡ true → Writable P F
+held-in-order P F k starts few clear stays = record {
   states-low = k .states-low;
   states-high = k .states-high;
   labels-low = k .labels-low;
@@ -195,11 +225,37 @@ held-in-order P F k starts few clear = record {
   start-in = starts;
   count-in = few;
   clear = clear;
+  stays = stays;
 }
 
+-- what is below a limit throughout is so at each place
+pub below-at : (limit : ℕ) (xs : List ℕ) → 0 < limit → allBelow limit xs ≡ true → (i : ℕ) → getD xs i 0 < limit
+unfolding allBelow
+below-at limit [] z h i = z
+below-at limit (x ∷ xs) z h zero = ltb-true x limit (and-left (ltb x limit) (allBelow limit xs) h)
+below-at limit (x ∷ xs) z h (suc i) = below-at limit xs z (and-right (ltb x limit) (allBelow limit xs) h) i
+
+-- The fault colour of the one profile, if it has one, is above the colours of the other.
+abbrev pub FaultAbove : Profile → Profile → Type 0
+FaultAbove P Q = (c : ℕ) → faultColour Q ≡ some c → 2 ^ P .colour ≤ c
+
+-- a filter without states of the fault colour has no edge that leaves it
+each-stays : (fault : Option ℕ) (hue : ℕ → ℕ) → ((c s : ℕ) → fault ≡ some c → hue s < c) → (es : List Edge) → each (stays fault hue) es ≡ true
+unfolding each leaves
+each-stays fault hue low [] = refl
+each-stays none hue low (e ∷ es) = each-stays none hue low es
+each-stays (some c) hue low (e ∷ es) =
+    let l = low c (e .source) refl in
+    rw (ne-eqb (hue (e .source)) c (λ q. omega arith)) (each-stays (some c) hue low es)
+
+pub above-stays : (P Q : Profile) (F : Filter) → FaultAbove P Q → allBelow (2 ^ P .colour) (F .colours) ≡ true → faultStays (faultColour Q) F ≡ true
+unfolding faultStays colour
+above-stays P Q F above low =
+    each-stays (faultColour Q) _ (λ c s e. lt-of-lt-of-le (below-at (2 ^ P .colour) (F .colours) (pow-pos (P .colour)) low s) (above c e)) (F .edges)
+
 -- a filter that one file has and the other can hold can be written there
-pub held-writable : (P Q : Profile) (F : Filter) → Writable P F → holdable Q (F .colours) (F .labels) ≡ true → Writable Q F
-held-writable P Q F w h = held-in-order Q F (held Q (F .colours) (F .labels) h) (w .start-in) (w .count-in) (w .clear)
+pub held-writable : (P Q : Profile) (F : Filter) → FaultAbove P Q → Writable P F → holdable Q (F .colours) (F .labels) ≡ true → Writable Q F
+held-writable P Q F above w h = held-in-order Q F (held Q (F .colours) (F .labels) h) (w .start-in) (w .count-in) (w .clear) (above-stays P Q F above (w .colours-below))
 
 -- what can be written, the widths can hold
 pub writable-held : (P : Profile) (F : Filter) → Writable P F → holdable P (F .colours) (F .labels) ≡ true
@@ -218,13 +274,14 @@ write-written P F whole room vs h =
     let p = first-accepted (writeTests P F whole) _ vs h in
     let t = p .0 in
     let q = edges-accepted (firstFault (states F) (F .labels) none (listedFrom 0 (F .edges))) _ vs (p .1) in
-    let r = first-accepted (roomTest (lengthOf P F) room) (accepted (lengthOf P F ∷ [])) vs (q .1) in
+    let l = edges-accepted (firstLeaving (faultColour P) (F .colours) (listedFrom 0 (F .edges))) _ vs (q .1) in
+    let r = first-accepted (roomTest (lengthOf P F) room) (accepted (lengthOf P F ∷ [])) vs (l .1) in
     let hold = holdable P (F .colours) (F .labels) in
     let a : hold && whole ≡ true = not-false (hold && whole) (t .0) in
     let k = held P (F .colours) (F .labels) (and-left hold whole a) in
     record {
       writable =
-          held-in-order P F k (leb-false (states F) (F .start) (t .1 .0)) (ltb-false (states F * F .labels) (length (F .edges)) (t .1 .1 .0)) (q .0);
+          held-in-order P F k (leb-false (states F) (F .start) (t .1 .0)) (ltb-false (states F * F .labels) (length (F .edges)) (t .1 .1 .0)) (q .0) (list-stays _ F (l .0));
       is-whole = and-right hold whole a;
       roomy = ltb-false room (lengthOf P F) (r .0 .0);
       are = cc (r .1);
@@ -233,4 +290,4 @@ write-written P F whole room vs h =
 pub writable-write : (P : Profile) (F : Filter) (room : ℕ) → Writable P F → lengthOf P F ≤ room → writeOf P F true room ≡ accepted (lengthOf P F ∷ [])
 unfolding writeOf writeTests
 writable-write P F room w l =
-    simp (writable-held P F w, lt-leb _ _ (w .start-in), le-ltb _ _ (w .count-in), w .clear, le-ltb _ _ l)
+    simp (writable-held P F w, lt-leb _ _ (w .start-in), le-ltb _ _ (w .count-in), w .clear, stays-list _ F (w .stays), le-ltb _ _ l)

@@ -30,7 +30,7 @@ use Rattle.layout.proofs.Bounds.{states-low, labels-low, states-fit, labels-fit
 use Rattle.layout.proofs.EdgeLists.{fields-edges, length-edges, length-widths, total-edges, length-flat, threes-flat}
 use Rattle.meaning.specs.Cases.{and-left, and-right}
 use Rattle.edges.proofs.Tests.{listed-values, clear-elsewhere}
-use Rattle.files.specs.Tests.{Sound, check-sound, Writable, writable-edges, writable-in-order}
+use Rattle.files.specs.Tests.{Sound, check-sound, below-at, Writable, writable-edges, writable-in-order, FaultAbove, above-stays}
 
 -- ---- the fields of a file
 
@@ -66,12 +66,6 @@ fields-file P s n e =
     )
 
 -- ---- values that fit
-
-pub below-at : (limit : ℕ) (xs : List ℕ) → 0 < limit → allBelow limit xs ≡ true → (i : ℕ) → getD xs i 0 < limit
-unfolding allBelow
-below-at limit [] z h i = z
-below-at limit (x ∷ xs) z h zero = ltb-true x limit (and-left (ltb x limit) (allBelow limit xs) h)
-below-at limit (x ∷ xs) z h (suc i) = below-at limit xs z (and-right (ltb x limit) (allBelow limit xs) h) i
 
 pub at-below : (limit : ℕ) (xs : List ℕ) → ((i : ℕ) → i < length xs → getD xs i 0 < limit) → allBelow limit xs ≡ true
 unfolding allBelow
@@ -278,6 +272,7 @@ module _ (P : Profile) (ok : Usable P) (F : Filter) (w : Writable P F) where
         count-in = rw (h .count-is, h .states-are, h .labels-are) (w .count-in);
         long = length-written ∙ rw (h .count-is, h .states-are);
         filled = h .filled;
+        stays = rw (holds-filter P (written P F) F h) (w .stays);
         clear = rw (h .states-are, h .labels-are) (clear-elsewhere _ _ _ (placedIn P (written P F)) (listed-values 0 (F .edges) ∙ sym (edges-placed P (written P F) ∙ h .edges-are)) (w .clear));
       }
 
@@ -329,6 +324,7 @@ module _ (P : Profile) (ok : Usable P) (s : List ℕ) (h : Sound P s) where
     colours-below = at-below (2 ^ P .colour) (coloursIn P s) colour-fits;
     start-in = rw (length-colours P s) (h .start-in);
     count-in = rw (length-colours P s, length-edges-in P s) (h .count-in);
+    stays = h .stays;
     clear = rw (length-colours P s) (clear-elsewhere _ _ (placedIn P s) _ (edges-placed P s ∙ sym (listed-values 0 (edgesIn P s))) (h .clear));
   }
 
@@ -360,8 +356,8 @@ checked-in-order P ok s vs h = writable-in-order P (filterIn P s) (read-writable
 -- ---- wider files, and the longest
 
 -- a file that is at least as wide holds the filter too
-pub writable-wider : (P Q : Profile) (F : Filter) → P .states ≤ Q .states → P .labels ≤ Q .labels → P .colour ≤ Q .colour → Writable P F → Writable Q F
-writable-wider P Q F ns ms cs w = record {
+pub writable-wider : (P Q : Profile) (F : Filter) → P .states ≤ Q .states → P .labels ≤ Q .labels → P .colour ≤ Q .colour → FaultAbove P Q → Writable P F → Writable Q F
+writable-wider P Q F ns ms cs above w = record {
   states-low = w .states-low;
   states-high = le-trans (w .states-high) (pow-mono ns);
   labels-low = w .labels-low;
@@ -370,6 +366,7 @@ writable-wider P Q F ns ms cs w = record {
   start-in = w .start-in;
   count-in = w .count-in;
   clear = w .clear;
+  stays = above-stays P Q F above (w .colours-below);
 }
 
 -- The length of a file that has all states and all labels, and an edge for each state and label.

@@ -18,8 +18,9 @@ use Rattle.meaning.specs.Classes.{classes}
 use Rattle.meaning.specs.Reduced.{has, nameOf, edge′, listed, merged, reduce, reduced}
 use Rattle.meaning.specs.Listing.{cells-max, listed-length}
 use Rattle.meaning.specs.Demand.{reduced-in-order, reduced-bound, reduced-edges}
+use Rattle.meaning.specs.Staying.{reduced-stays}
 use Rattle.layout.specs.declared.Profile.{Profile}
-use Rattle.layout.specs.Layout.{headerBits, edgeBits, edgesBegin, fileBits, bytesFor, fileLength, lengthOf, written}
+use Rattle.layout.specs.Layout.{faultColour, headerBits, edgeBits, edgesBegin, fileBits, bytesFor, fileLength, lengthOf, written}
 use Rattle.layout.specs.Code.{Usable}
 use Rattle.layout.specs.Contents.{filterIn}
 use Rattle.refusals.specs.Refusals.{accepted}
@@ -79,6 +80,7 @@ module _ (P : Profile) (ok : Usable P) (F : Filter) (w : Writable P F) where
         clear = listed-clear (states R) (R .labels) (R .edges)
             (and-left (each (inside (states R) (R .labels)) (R .edges)) (ascending (R .edges)) rest)
             (and-right (each (inside (states R) (R .labels)) (R .edges)) (ascending (R .edges)) rest);
+        stays = reduced-stays (faultColour P) F few in-order (w .stays);
       }
 
   pub reduced-shorter : lengthOf P (reduced F) ≤ lengthOf P F

@@ -22,8 +22,8 @@ use Rattle.layout.specs.Layout.{edgesBegin, fileBits, fillBits, edgeWidths, fla
 use Rattle.layout.specs.Code.{Usable, edgeOf}
 use Rattle.layout.proofs.EdgeLists.{flat-append, total-edges, length-widths, length-flat}
 use Rattle.files.specs.Files.{allBelow}
-use Rattle.files.specs.Tests.{Writable}
-use Rattle.files.specs.Written.{below-at, states≤256, count≤65536}
+use Rattle.files.specs.Tests.{below-at, Writable}
+use Rattle.files.specs.Written.{states≤256, count≤65536}
 use Rattle.text.specs.Decimal.{decimal}
 use Rattle.spelling.specs.Spelling.{numberAt}
 use Rattle.spelling.specs.Words.{behind-of, stands-of, stands-split}

@@ -1,6 +1,7 @@
 -- A filter in the files of two profiles (document 02, "The pocket profile"): a file that is accepted, and that the other profile can hold, is
 -- converted to a file that is accepted with the same numbers; back again it has the same bytes; both trace every sequence the same; and the
--- reduced file converted is the reduced file of the converted one. Of any two usable profiles; first of the definitions, then of the calls.
+-- reduced file converted is the reduced file of the converted one. Of any two usable profiles, where the fault
+-- colour of the second, if it has one, is above the colours of the first; first of the definitions, then of the calls.
 -- Assumes nothing.
 use Prim.Native.Nat.{ℕ, _≤_}
 use mathlib.Core.Path.{_≡_, sym, ap, _∙_, subst}
@@ -22,7 +23,7 @@ use Rattle.layout.specs.Layout.{lengthOf, written}
 use Rattle.layout.specs.Contents.{labelsIn, filterIn}
 use Rattle.layout.specs.Code.{Usable}
 use Rattle.files.specs.Files.{holdable, numbersIn, checkOf}
-use Rattle.files.specs.Tests.{check-sound, sound-check, Writable, writable-held, held-writable}
+use Rattle.files.specs.Tests.{check-sound, sound-check, Writable, writable-held, FaultAbove, held-writable}
 use Rattle.files.specs.Written.{Holds, holds-filter, length-written, written-holds, written-sound, length-colours, length-edges-in, length-read, read-writable, read-back}
 use Rattle.packing.specs.declared.Packed.{Packed}
 use Rattle.packing.specs.declared.Packed.the-variants as packed
@@ -41,7 +42,7 @@ use Rattle.demands.specs.Demand3.{reducedFile, Shows, reduced-file-holds, reduc
 
 -- ---- of the definitions
 
-module _ (From To : Profile) (ok : Usable From) (ok′ : Usable To) (file : List ℕ) (vs : List ℕ) (accepts : checkOf From file ≡ accepted vs)
+module _ (From To : Profile) (ok : Usable From) (ok′ : Usable To) (above : FaultAbove From To) (file : List ℕ) (vs : List ℕ) (accepts : checkOf From file ≡ accepted vs)
     (fits : holdable To (filterIn From file .colours) (filterIn From file .labels) ≡ true) where
   abbrev F : Filter
   F = filterIn From file
@@ -53,7 +54,7 @@ module _ (From To : Profile) (ok : Usable From) (ok′ : Usable To) (file : List
   writable = read-writable From ok file (check-sound From file vs accepts .0)
 
   writable-there : Writable To F
-  writable-there = held-writable From To F writable fits
+  writable-there = held-writable From To F above writable fits
 
   holds : Holds To other F
   holds = written-holds To ok′ F writable-there
@@ -139,22 +140,22 @@ written-bytes : (P : Profile) (F : Filter) → Bytes (written P F)
 unfolding written
 written-bytes P F = bytes-puts _ 0 _ _ (bytes-replicate (lengthOf P F) 0 (omega arith))
 
-module _ (From To : Profile) (ok : Usable From) (ok′ : Usable To) (file : List ℕ) (n : ℕ) (room left : List ℕ)
+module _ (From To : Profile) (ok : Usable From) (ok′ : Usable To) (above : FaultAbove From To) (file : List ℕ) (n : ℕ) (room left : List ℕ)
     (there : ConvertPromise From To file room (packed.Accepted n) left) where
   -- the first n bytes of the room are the other file
   pub is-other : take n left ≡ converted From To file
   is-other =
       let got = converts From To file (length room) n (sym (there .answer)) in
       ap (take n) (cc (promise-laid there (sym (there .answer))))
-      ∙ laid-front (converted From To file) room n (converted-length From To ok ok′ file (got .checks .0) (got .checks .1) (got .fits) ∙ got .length-is)
+      ∙ laid-front (converted From To file) room n (converted-length From To ok ok′ above file (got .checks .0) (got .checks .1) (got .fits) ∙ got .length-is)
 
-module _ (From To : Profile) (ok : Usable From) (ok′ : Usable To) (file : List ℕ) (bytes : Bytes file) (n : ℕ) (room left : List ℕ)
+module _ (From To : Profile) (ok : Usable From) (ok′ : Usable To) (above : FaultAbove From To) (file : List ℕ) (bytes : Bytes file) (n : ℕ) (room left : List ℕ)
     (there : ConvertPromise From To file room (packed.Accepted n) left) where
   got : Converts From To file n
   got = converts From To file (length room) n (sym (there .answer))
 
   first : take n left ≡ converted From To file
-  first = is-other From To ok ok′ file n room left there
+  first = is-other From To ok ok′ above file n room left there
 
   -- if a file is converted into a room, and the first n bytes of the room are converted back into a room that is long enough, the file's
   -- length is answered and that room begins with the file
@@ -162,9 +163,9 @@ module _ (From To : Profile) (ok : Usable From) (ok′ : Usable To) (file : List
       (r ≡ packed.Accepted (length file)) × (back′ ≡ laid file back)
   convert-and-back back back′ r l p =
       let q : ConvertPromise To From (converted From To file) back r back′ = subst (λ (s : List ℕ). ConvertPromise To From s back r back′) first p in
-      let due = back-accepted From To ok ok′ file (got .checks .0) (got .checks .1) (got .fits) (length back) l in (
+      let due = back-accepted From To ok ok′ above file (got .checks .0) (got .checks .1) (got .fits) (length back) l in (
         packed-one r (packed.Accepted (length file)) (q .answer ∙ due),
-        cc (promise-laid q due) ∙ ap (λ (s : List ℕ). laid s back) (there-and-back From To ok ok′ file (got .checks .0) (got .checks .1) (got .fits) bytes),
+        cc (promise-laid q due) ∙ ap (λ (s : List ℕ). laid s back) (there-and-back From To ok ok′ above file (got .checks .0) (got .checks .1) (got .fits) bytes),
       )
 
   -- a trace of the file and one of the first n bytes of the room, into the same room, answer the same and leave the same colours
@@ -173,7 +174,7 @@ module _ (From To : Profile) (ok : Usable From) (ok′ : Usable To) (file : List
   convert-then-trace ys colours r r′ here here′ p p′ =
       let q : TracePromise To (converted From To file) ys colours r′ here′ = subst (λ (s : List ℕ). TracePromise To s ys colours r′ here′) first p′ in
       let same : TracePromise From file ys colours r′ here′ =
-      rw (converted-traces From To ok ok′ file (got .checks .0) (got .checks .1) (got .fits) ys (length colours), converted-shows From To ok ok′ file (got .checks .0) (got .checks .1) (got .fits) ys) at q in
+      rw (converted-traces From To ok ok′ above file (got .checks .0) (got .checks .1) (got .fits) ys (length colours), converted-shows From To ok ok′ above file (got .checks .0) (got .checks .1) (got .fits) ys) at q in
       let one = promise-one p same in
       (traced-one r r′ (one .0), cc (one .1))
 
@@ -189,9 +190,9 @@ module _ (From To : Profile) (ok : Usable From) (ok′ : Usable To) (file : List
       let hc′ : ConvertPromise From To (reducedFile From file) room₁ (packed.Accepted k) left₁ = subst (λ (s : List ℕ). ConvertPromise From To s room₁ (packed.Accepted k) left₁) (answer-is From ok file found kept c bytes here) hc in
       let hd′ : ReducePromise To (converted From To file) found₂ (answers.Accepted d) kept₂ = subst (λ (s : List ℕ). ReducePromise To s found₂ (answers.Accepted d) kept₂) first hd in
       let there = answered To (converted From To file) found₂ kept₂ d hd′ in
-      let same = converted-holds From To ok ok′ file (got .checks .0) (got .checks .1) (got .fits) in (
-        is-other From To ok ok′ (reducedFile From file) k room₁ left₁ hc′
-            ∙ converted-reduces From To ok ok′ file (got .checks .0) (got .checks .1) (got .fits) bytes
+      let same = converted-holds From To ok ok′ above file (got .checks .0) (got .checks .1) (got .fits) in (
+        is-other From To ok ok′ above (reducedFile From file) k room₁ left₁ hc′
+            ∙ converted-reduces From To ok ok′ above file (got .checks .0) (got .checks .1) (got .fits) bytes
             ∙ sym (answer-is To ok′ (converted From To file) found₂ kept₂ d (written-bytes To (filterIn From file)) there),
         here .states-are ∙ sym (there .states-are ∙ ap (λ (G : Filter). states (reduced G)) same),
         here .colours-are ∙ sym (there .colours-are ∙ ap distinct same),

@@ -19,6 +19,7 @@ use Rattle.files.specs.Files.{allBelow, holdable, checkOf}
 use Rattle.files.specs.Tests.{check-sound, writable-held}
 use Rattle.files.specs.Written.{read-writable, writable-wider}
 use Rattle.converting.specs.Promise.{convertTests, convertOf, converted}
+use Rattle.converting.proofs.Calls.{to-large, to-pocket}
 use Rattle.demands.specs.Demand3.{reachedStates, reducedFile, Traces, Shows, reduced-file-bound, reduced-file-traces}
 use Rattle.interchange.specs.Interchange.{converts, there-and-back}
 
@@ -45,7 +46,7 @@ pub large-holds : (file vs : List ℕ) → checkOf pocket file ≡ accepted vs �
 large-holds file vs accepts =
     let F = filterIn pocket file in
     let w = read-writable pocket pocket-usable file (check-sound pocket file vs accepts .0) in
-    writable-held large F (writable-wider pocket large F (lit≤ tt) (lit≤ tt) (lit≤ tt) w)
+    writable-held large F (writable-wider pocket large F (lit≤ tt) (lit≤ tt) (lit≤ tt) (to-large .above) w)
 
 -- so to_large is refused for the file itself or for the room, and never with 16
 pub never-16 : (file : List ℕ) (room : ℕ) → convertOf pocket large file room
@@ -68,14 +69,14 @@ to-large-accepts file vs room accepts l = never-16 file room ∙ rw (accepts, le
 -- pocket to large and back is the identity on bytes
 pub pocket-large-pocket : (file vs : List ℕ) → Bytes file → checkOf pocket file ≡ accepted vs →
     converted large pocket (converted pocket large file) ≡ file
-pocket-large-pocket file vs bytes accepts = there-and-back pocket large pocket-usable large-usable file vs accepts (large-holds file vs accepts) bytes
+pocket-large-pocket file vs bytes accepts = there-and-back pocket large pocket-usable large-usable (to-large .above) file vs accepts (large-holds file vs accepts) bytes
 
 -- large to pocket and back too, where it is accepted
 pub large-pocket-large : (file : List ℕ) (room n : ℕ) → Bytes file → convertOf large pocket file room ≡ accepted (n ∷ []) →
     converted pocket large (converted large pocket file) ≡ file
 large-pocket-large file room n bytes accepts =
     let got = converts large pocket file room n accepts in
-    there-and-back large pocket large-usable pocket-usable file (got .checks .0) (got .checks .1) (got .fits) bytes
+    there-and-back large pocket large-usable pocket-usable (to-pocket .above) file (got .checks .0) (got .checks .1) (got .fits) bytes
 
 -- ---- demand 3, of pocket files
 

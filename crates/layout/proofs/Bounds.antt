@@ -9,9 +9,10 @@ use native.Mathlib.Omega.{arith}
 use lib.Dec.{leb, ltb}
 use lib.Pow.{pow-mono}
 use borrow.Author.Tests.{leb-true, ltb-true}
-use Rattle.meaning.specs.Cases.{and-left, and-right}
+use Rattle.meaning.specs.Cases.{impossible, and-left, and-right}
 use Rattle.bits.proofs.Reading.{field-lt}
 use Rattle.layout.specs.declared.Profile.{Profile}
+use Rattle.layout.specs.declared.FaultColour.the-variants as fault
 use Rattle.layout.specs.Layout.{large, pocket, headerBits, edgeBits, edgesBegin, fileBits, bytesFor, fileLength, fillBits}
 use Rattle.layout.specs.Code.{Usable}
 use Rattle.layout.specs.Contents.{statesIn, labelsIn, startIn, countIn}
@@ -20,8 +21,8 @@ use Rattle.layout.specs.Contents.{statesIn, labelsIn, startIn, countIn}
 abbrev fits : Profile → Bool
 fits P = leb (P .states) 8 && (leb (P .labels) 8 && (leb (P .colour) 8 && (leb (P .start) 16 && (leb (P .edges) 15 && (leb (P .states) (P .start) && ltb (P .states + P .labels) (P .edges))))))
 
-usable : (P : Profile) → fits P ≡ true → Usable P
-usable P h =
+usable : (P : Profile) → fits P ≡ true → ((c : ℕ) → P .fault ≡ fault.Is c → (P .colour ≡ 6) × (c ≡ 63)) → Usable P
+usable P h ones =
     let l = and-right (leb (P .states) 8) _ h in
     let c = and-right (leb (P .labels) 8) _ l in
     let s = and-right (leb (P .colour) 8) _ c in
@@ -35,13 +36,14 @@ usable P h =
       edges≤ = leb-true _ _ (and-left _ _ e);
       start-fits = leb-true _ _ (and-left _ _ f);
       edges-fit = ltb-true _ _ (and-right (leb (P .states) (P .start)) _ f);
+      six-ones = ones;
     }
 
 pub large-usable : Usable large
-large-usable = usable large refl
+large-usable = usable large refl (λ c e. (refl, cc))
 
 pub pocket-usable : Usable pocket
-pocket-usable = usable pocket refl
+pocket-usable = usable pocket refl (λ c e. impossible cc)
 
 -- ---- the length is the least whole number of bytes that holds the bits
 

@@ -1,6 +1,7 @@
 -- Laws of edges: read as one field, and listed as bytes.
 -- Assumes nothing.
 use mathlib.Core.Path.{_≡_, refl, sym, ap, _∙_}
+use mathlib.Core.Bool.{Bool, true}
 use mathlib.Core.List.{List, [], _∷_, _++_, map, append-assoc}
 use Prim.Native.Nat.{ℕ, zero, suc, _+_, _*_, _-_, _/_, _%_, _^_, _≤_, _<_}
 use native.Mathlib.Nat.{add-assoc, add-zero, mul-zero, mul-suc, suc-add, zero-add, mod-eq-of-lt}
@@ -15,7 +16,8 @@ use Rattle.bits.proofs.Reading.{field-lt, field-split, field-within}
 use Rattle.bits.proofs.Writing.{put-three, append-lt}
 use Rattle.pen.proofs.Runs.{puts-append}
 use Rattle.bits.proofs.Parts.{store-more}
-use Rattle.meaning.specs.Filter.{Edge}
+use Rattle.meaning.specs.Cases.{and-left, and-right}
+use Rattle.meaning.specs.Filter.{Edge, each}
 use Rattle.layout.specs.declared.Profile.{Profile}
 use Rattle.layout.specs.Layout.{edgeBits, edgeWidths, flat, putEdges, threes}
 use Rattle.layout.specs.declared.edge.Edge as layout
@@ -93,6 +95,16 @@ edges-cons : (P : Profile) (s : List ℕ) (at e i : ℕ) → i < e →
     edgesFrom P s at (e - i) ≡ edgeAt P s at ∷ edgesFrom P s (at + edgeBits P) (e - (i + 1))
 unfolding edgesFrom edgeAt
 edges-cons P s at e i h = ap (map values) (placed-cons P s at e i h)
+
+-- what holds of each edge holds of the one that begins at its bit
+pub each-at : (P : Profile) (p : Edge → Bool) (s : List ℕ) (at e : ℕ) → each p (edgesFrom P s at e) ≡ true → (i : ℕ) → i < e → p (edgeAt P s (at + edgeBits P * i)) ≡ true
+unfolding each edgesFrom placedFrom edgeAt
+each-at P p s at zero h i l = absurd (omega arith)
+each-at P p s at (suc e) h zero l =
+    rw (mul-zero (edgeBits P), add-zero at) (and-left (p (edgeAt P s at)) (each p (edgesFrom P s (at + edgeBits P) e)) h)
+each-at P p s at (suc e) h (suc i) l =
+    let next : at + edgeBits P + edgeBits P * i ≡ at + edgeBits P * suc i = omega (arith, mul-suc (edgeBits P) i) in
+    rw (← next) (each-at P p s (at + edgeBits P) e (and-right (p (edgeAt P s at)) (each p (edgesFrom P s (at + edgeBits P) e)) h) i (omega arith))
 
 -- the first edges, and those behind them
 edges-append : (P : Profile) (s : List ℕ) (at i k : ℕ) → edgesFrom P s at (i + k) ≡ edgesFrom P s at i ++ edgesFrom P s (at + edgeBits P * i) k

@@ -1,18 +1,21 @@
 -- What the code's own types stand for, and the widths that it can use. No public call's promise speaks of these.
 -- Assumes nothing.
 use Prim.Native.Nat.{ℕ, _+_, _≤_, _<_, _^_}
+use mathlib.Core.Path.{_≡_}
 use mathlib.Core.List.{List}
 use lib.ListN.{getD}
 use Rattle.meaning.specs.Filter as meaning
 use Rattle.pen.specs.Runs.{Fit, Ready, placeOf}
 use Rattle.pen.specs.declared.Pen.{Pen}
 use Rattle.layout.specs.declared.Profile.{Profile}
+use Rattle.layout.specs.declared.FaultColour.the-variants as fault
 use Rattle.layout.specs.declared.edge.Edge.{Edge}
 use Rattle.layout.specs.declared.edge.Placed.{Placed}
 use Rattle.layout.specs.Layout.{headerWidths, headerValues}
 
 -- Widths that the code can use: states, labels and colours are bytes, and a start and a count of edges fit their fields, for a
--- start is below n, and e is at most n times m. With at most 15 bits for e a bit's position has at most six digits.
+-- start is below n, and e is at most n times m. With at most 15 bits for e a bit's position has at most six digits. A fault colour is
+-- six ones: the code looks for these.
 pub record Usable (P : Profile) : Type 0 where
   pub states≤ : P .states ≤ 8
   pub labels≤ : P .labels ≤ 8
@@ -21,6 +24,7 @@ pub record Usable (P : Profile) : Type 0 where
   pub edges≤ : P .edges ≤ 15
   pub start-fits : P .states ≤ P .start
   pub edges-fit : P .states + P .labels < P .edges
+  pub six-ones : (c : ℕ) → P .fault ≡ fault.Is c → (P .colour ≡ 6) × (c ≡ 63)
 
 -- What is asked for writing the four numbers before the colours.
 pub record Heading (P : Profile) (n m start e : ℕ) : Type 0 where

@@ -1,6 +1,6 @@
 -- What the bytes of a file hold, read at their positions (document 01, "The filter file"). Bits past the end count as 0.
 -- Assumes nothing.
-use Prim.Native.Nat.{ℕ, zero, suc, _+_}
+use Prim.Native.Nat.{ℕ, zero, suc, _+_, _*_}
 use mathlib.Core.List.{List, [], _∷_, map}
 use lib.ListN.{replicate}
 use Rattle.bits.specs.Bits.{field}
@@ -34,6 +34,10 @@ readingIn P file = record { states = statesIn P file; labels = labelsIn P file; 
 -- The colours, state 0 first.
 unfoldable pub coloursIn : Profile → List ℕ → List ℕ
 coloursIn P file = fields file (headerBits P) (replicate (statesIn P file) (P .colour))
+
+-- The colour of a state, at its position.
+unfoldable pub colourAt : Profile → List ℕ → ℕ → ℕ
+colourAt P file s = field file (headerBits P + P .colour * s) (P .colour)
 
 -- A field that is read: its value, and as its place the position of its first bit, counted from 0.
 abbrev pub fieldInFile : List ℕ → ℕ → ℕ → Field

@@ -1,20 +1,31 @@
 -- How a filter stands in a file: widths, positions, length, and the bytes that are written (document 01, "The filter file"; document 02, "The
--- pocket profile").
+-- pocket profile", "A fault stays a fault").
 -- Assumes nothing.
 use Prim.Native.Nat.{ℕ, zero, suc, _+_, _*_, _-_, _/_}
 use mathlib.Core.List.{List, [], _∷_, _++_}
+use mathlib.Core.Option.{Option, none, some}
 use lib.ListN.{length, replicate}
 use Rattle.pen.specs.Runs.{putFields}
 use Rattle.meaning.specs.Filter.{Edge, Filter, states}
 use Rattle.layout.specs.declared.Profile.{Profile}
+use Rattle.layout.specs.declared.FaultColour.{FaultColour}
+use Rattle.layout.specs.declared.FaultColour.the-variants as fault
 
--- The widths of the large file in bits: of the fields for states, labels, start and edges, and of a colour.
+-- The large file: its widths in bits, of the fields for states, labels, start and edges, and of a colour; and its fault colour, 63.
 abbrev pub large : Profile
-large = record { states = 8; labels = 6; start = 8; edges = 15; colour = 6 }
+large = record { states = 8; labels = 6; start = 8; edges = 15; colour = 6; fault = fault.Is 63 }
 
--- Those of the pocket file.
+-- The pocket file. Its colours end at 15, and none of them is a fault.
 abbrev pub pocket : Profile
-pocket = record { states = 4; labels = 3; start = 4; edges = 8; colour = 4 }
+pocket = record { states = 4; labels = 3; start = 4; edges = 8; colour = 4; fault = fault.None }
+
+abbrev pub colourOf : FaultColour → Option ℕ
+colourOf fault.None = none
+colourOf (fault.Is colour) = some colour
+
+-- The fault colour of a profile, if it has one.
+abbrev pub faultColour : Profile → Option ℕ
+faultColour P = colourOf (P .fault)
 
 -- The widths and the values of the four numbers that stand before the colours: n - 1, m - 1, start, e.
 abbrev pub headerWidths : Profile → List ℕ

@@ -7,16 +7,23 @@ ghost use mathlib.Core.Path.{_≡_};
 ghost use Prim.Native.Nat.{_≤_, _^_};
 ghost use Rattle.bits.specs.Bits.{putField};
 ghost use Rattle.layout.specs.Layout.{large, pocket, headerBits, edgeBits, edgesBegin, fileBits, fillBits, bytesFor};
-ghost use Rattle.layout.specs.Contents.{statesIn};
+ghost use Rattle.layout.specs.Contents.{statesIn, colourAt};
 ghost use Rattle.layout.specs.Code.{Usable};
 
-// The widths in bits of a file's fields: states, labels, start, edges, and one colour.
+// The colour that no edge may leave, for it shuts the drive down; or that a file has none.
+pub enum FaultColour {
+    None,
+    Is(usize),
+}
+
+// The widths in bits of a file's fields: states, labels, start, edges, and one colour; and the fault colour.
 pub struct Profile {
     pub states: usize,
     pub labels: usize,
     pub start: usize,
     pub edges: usize,
     pub colour: usize,
+    pub fault: FaultColour,
 }
 
 // A field and its place: in a file the position of its first bit, in a list the index of its edge.
@@ -42,6 +49,7 @@ pub fn large() -> Profile
         start: 8,
         edges: 15,
         colour: 6,
+        fault: FaultColour::Is(63),
     }
 }
 
@@ -55,6 +63,7 @@ pub fn pocket() -> Profile
         start: 4,
         edges: 8,
         colour: 4,
+        fault: FaultColour::None,
     }
 }
 
@@ -92,6 +101,14 @@ pub fn bytes_for(bits: usize) -> usize
     ensures { λ r. ⌜ r ≡ bytesFor bits ⌝ }
 {
     (bits + 7) / 8
+}
+
+// The colour of a state of a file.
+pub fn colour(p: Profile, file: &[u8], state: usize) -> usize
+    requires { ⌜ Usable p × (state ≤ 256) ⌝ }
+    ensures { λ r. ⌜ r ≡ colourAt p (now (file .entry)) state ⌝ }
+{
+    bits::get(file, header_bits(p) + p.colour * state, p.colour) as usize
 }
 
 // The number of states that a file states, whether it is accepted or not.

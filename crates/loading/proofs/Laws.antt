@@ -8,16 +8,15 @@ use Prim.Native.Nat.{ℕ, _+_, _*_, _-_, _≤_, _<_}
 use native.Mathlib.Decide.{decLt}
 use native.Mathlib.Nat.{le-antisymm, lt-of-lt-of-le}
 use native.Mathlib.Omega.{arith}
-use lib.Dec.{ltb, lit≤}
+use lib.Dec.{lit≤}
 use lib.ListN.{length, getD, take, drop, replicate, List·getD-append, List·getD-eq-default}
 use lib.Pow.{pow-mono}
 use lib.Seq.{length-take-le, getD-take, getD-drop, getD-append-add, ext-getD}
-use borrow.Author.Tests.{ltb-true}
 use Rattle.bits.proofs.Reading.{field-lt}
 use Rattle.pen.specs.Runs.{fields}
-use Rattle.meaning.specs.Cases.{impossible, cases-of, and-left, same²}
+use Rattle.meaning.specs.Cases.{impossible, cases-of, same²}
 use Rattle.meaning.specs.Demand.{fits}
-use Rattle.meaning.specs.Filter.{Edge, each, inside, ascending, states}
+use Rattle.meaning.specs.Filter.{Edge, ascending, states}
 use Rattle.meaning.specs.Search.{at}
 use Rattle.meaning.specs.Trace.{target, edge, colour}
 use Rattle.meaning.specs.TraceLaws.{stands, target-snoc, target-before, target-fresh}
@@ -28,21 +27,21 @@ use Rattle.layout.specs.declared.Reading.{Reading}
 use Rattle.layout.specs.Layout.{pocket, headerBits, edgeBits, edgesBegin}
 use Rattle.layout.specs.declared.edge.Edge as layout
 use Rattle.layout.specs.declared.edge.Placed.{Placed}
-use Rattle.layout.specs.Contents.{statesIn, labelsIn, coloursIn, values, placedAt, placedFrom, edgeAt, edgesFrom, filterIn}
+use Rattle.layout.specs.Contents.{statesIn, labelsIn, coloursIn, placedAt, placedFrom, edgeAt, edgesFrom, filterIn}
 use Rattle.layout.specs.Code.{edgeOf, bare, Small, Usable}
 use Rattle.layout.proofs.Bounds.{pocket-usable, states-high, states-fit}
 use Rattle.layout.proofs.EdgeLists.{edges-around, edges-more, bare-read}
 use Rattle.edges.specs.declared.Cursor.{Cursor}
 use Rattle.edges.specs.declared.Verdict.{Verdict}
-use Rattle.edges.specs.Faults.{edgeFault, firstFault}
+use Rattle.edges.specs.Faults.{Fault, firstFault, edgesThen}
 use Rattle.edges.specs.Walk.{faultOf, Tested, behind, Walked}
-use Rattle.edges.proofs.Tests.{fault-free}
+use Rattle.edges.proofs.Tests.{clear-ends, fault-free}
 use Rattle.edges.proofs.Walks.{begun, walk-begun, walk-clear, walk-next}
-use Rattle.files.specs.Files.{checkOf}
+use Rattle.leaving.specs.Leaving.{leavingIn}
+use Rattle.files.specs.Files.{readingOutcome, checkOf}
 use Rattle.files.specs.Tests.{HeadIs, edges-read, check-faultless}
 use Rattle.files.specs.Written.{length-colours, length-filter, checked-in-order}
 use Rattle.checking.specs.declared.Checked.{Checked}
-use Rattle.checking.specs.declared.Checked.the-variants as checked
 use Rattle.checking.specs.Promise.{checkedOutcome}
 use Rattle.sets.proofs.FourLaws.{blank}
 use Rattle.table.specs.Table.{Table, table, look, Rows, SameRows, withEdge, Put}
@@ -59,13 +58,6 @@ look-more T T′ es e rest put is order = put .edges ∙ fun-ext λ s. fun-ext �
     (λ q. let here = same² (e .source) s (e .label) y q in
     rw q (sym (target-snoc es e s y (rw (← here .0, ← here .1) (target-fresh es e rest order)) ∙ rw q)))
     (λ q. rw q (ap (λ (f : ℕ → ℕ → Option ℕ). f s y) is ∙ sym (target-before es e s y q)))
-
--- an edge without a fault leaves a state of the filter
-source-low : (n m : ℕ) (before : Option Edge) (e : Placed) → edgeFault n m before e ≡ none → e .source .value < n
-unfolding firstFault each inside
-source-low n m before e h =
-    let all = fault-free n m before (e ∷ []) (rw h) .all-inside in
-    ltb-true (e .source .value) n (and-left (ltb (e .source .value) n) _ (and-left (inside n m (values e)) _ all))
 
 -- a label of at most six bits
 label-low : (P : Profile) (s : List ℕ) (at : ℕ) → P .labels ≤ 6 → edgeAt P s at .label < 64
@@ -106,7 +98,7 @@ module _ (P : Profile) (file : List ℕ) (at e n m : ℕ) (T₀ : Table) where
       -- it can be put into the table
       pub filling-room : P .labels ≤ 6 → Rows T₀ n → (plain .label < 64) × Rows T (plain .source + 1)
       filling-room narrow room =
-          let low = source-low n m (f .walked .before) edge (walk-clear P file at e n m c (f .walked) edge read v tested more clear) in
+          let low = clear-ends n m (f .walked .before) edge (walk-clear P file at e n m c (f .walked) edge read v tested more clear) .0 in
           let source : plain .source ≡ edge .source .value = ap (λ (d : layout.Edge). d .source) is in (
             rw (ap (λ (d : Edge). d .label) here) (label-low P file (c .place) narrow),
             record {
@@ -148,14 +140,15 @@ loaded-refused P file r why T T′ is h rows = record {
   rows = rows;
 }
 
--- of an accepted file the table has the edges as they were read
-pub loaded-accepted : (P : Profile) (file : List ℕ) (r : Reading) (T T′ : Table) → HeadIs P file r →
+-- without a fault of its own in any edge 17 decides, and the table has the edges as they were read
+pub loaded-told : (P : Profile) (file : List ℕ) (r : Reading) (a : Checked) (leaving : Option Fault) (T T′ : Table) → HeadIs P file r →
+    checkedOutcome a ≡ edgesThen leaving (readingOutcome r) → leaving ≡ leavingIn P file (r .states) (r .edges) →
     let at = edgesBegin P (r .states) in
     firstFault (r .states) (r .labels) none (placedFrom P file at (r .edges)) ≡ none → look T′ ≡ target (edgesFrom P file at (r .edges)) → SameRows T T′ →
-    Loaded P file (checked.Accepted r) T T′
+    Loaded P file a T T′
 unfolding edge filterIn
-loaded-accepted P file r T T′ is clear has rows = record {
-  answer = sym (check-faultless P file r is _ refl clear);
+loaded-told P file r a leaving T T′ is told found clear has rows = record {
+  answer = told ∙ sym (check-faultless P file r is _ refl clear leaving (sym found));
   edges = λ numbers k. has ∙ ap target (edges-read P file r is _ refl);
   rows = rows;
 }

@@ -75,7 +75,7 @@ fn load_as(
             Verdict::Faulty(why) => return Checked::Refused(why),
         }
     }
-    Checked::Accepted(r)
+    checking::told(r, leaving::first(p, file, n, e))
 }
 
 // The colour of each of the n states of a file, one byte a state.

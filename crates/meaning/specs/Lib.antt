@@ -6,6 +6,7 @@ pub mod Trace
 pub mod Reach
 pub mod Classes
 pub mod Reduced
+pub mod Fault
 -- Laws and theorems.
 pub mod Cases
 pub mod SearchLaws
@@ -17,5 +18,6 @@ pub mod Listing
 pub mod Colours
 pub mod Traced
 pub mod Demand
+pub mod Staying
 pub mod Dropped
 pub mod Leftovers

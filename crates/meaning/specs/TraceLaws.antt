@@ -13,6 +13,7 @@ use lib.ListN.{length}
 use borrow.Author.Tests.{eq-eqb, ne-eqb, lt-ltb, ltb-true, eqb-true}
 use Rattle.meaning.specs.Cases.{impossible, and-left, and-right}
 use Rattle.meaning.specs.Pick.{pick}
+use Rattle.meaning.specs.Search.{at}
 use Rattle.meaning.specs.Filter.{Edge, comesBefore, leads, ascending}
 use Rattle.meaning.specs.Trace.{target, ridden, later, halted}
 
@@ -95,6 +96,15 @@ target-fresh (f ∷ fs) e rest h =
 -- ---- a ride
 
 module _ (next : ℕ → ℕ → Option ℕ) (hue : ℕ → ℕ) where
+  pub ridden-end : (s : ℕ) → ridden next hue s [] ≡ hue s ∷ []
+  unfolding ridden
+  ridden-end s = refl
+
+  pub ridden-first : (s : ℕ) (ys : List ℕ) → at (ridden next hue s ys) 0 ≡ hue s
+  unfolding ridden
+  ridden-first s [] = refl
+  ridden-first s (y ∷ ys) = refl
+
   pub ridden-on : (s y t : ℕ) (ys : List ℕ) → next s y ≡ some t → ridden next hue s (y ∷ ys) ≡ hue s ∷ ridden next hue t ys
   unfolding ridden
   ridden-on s y t ys h = rw h

@@ -20,7 +20,7 @@ abbrev pub packedOutcome : Packed → Outcome
 packedOutcome (packed.Accepted n) = accepted (n ∷ [])
 packedOutcome (packed.Refused r) = refusalOutcome r
 
--- 14, 2, 3, the edges, 10; the edge list's length is a multiple of 3
+-- 14, 2, 3, the edges, 17, 10; the edge list's length is a multiple of 3
 unfoldable pub packOf : Profile → List ℕ → List ℕ → ℕ → ℕ → ℕ → Outcome
 packOf P colours edges m start room = writeOf P (fromLists colours edges m start) (eqb (length edges % 3) 0) room
 

@@ -1,5 +1,6 @@
 // Packing a colour list and an edge list into a filter file.
 use edges::Verdict;
+use layout::FaultColour;
 use layout::Profile;
 use layout::edge::Edge;
 use refusals::Kind;
@@ -10,10 +11,12 @@ ghost use mathlib.Core.Option.{none};
 ghost use Prim.Native.Nat.{_+_, _*_, _/_, _<_};
 ghost use lib.ListN.{length};
 ghost use Rattle.pen.specs.Runs.{putFields};
+ghost use Rattle.meaning.specs.Search.{at};
+ghost use Rattle.meaning.specs.Fault.{leaves};
 ghost use Rattle.refusals.specs.Refusals.{accepted, firstOf, roomTest, laid};
-ghost use Rattle.layout.specs.Layout.{large, pocket, edgeWidths, threes, fromLists, lengthOf, written};
+ghost use Rattle.layout.specs.Layout.{large, pocket, colourOf, edgeWidths, threes, fromLists, lengthOf, written};
 ghost use Rattle.layout.specs.Code.{Usable, Small, edgeOf, edgeIn};
-ghost use Rattle.edges.specs.Faults.{listedFrom, firstFault};
+ghost use Rattle.edges.specs.Faults.{listedFrom, orElse, firstFault, firstLeaving};
 ghost use Rattle.edges.specs.Walk.{faultOf};
 ghost use Rattle.files.specs.Files.{allBelow, holdable};
 ghost use Rattle.packing.specs.Promise.{packedOutcome, packOf, PackPromise, Placeable};
@@ -93,7 +96,8 @@ fn test_lists(
     if n * m < e {
         return not_packed(Kind::EdgeCount);
     }
-    let verdict = test_list(edges, n, m);
+    let fault = p.fault;
+    let verdict = test_list(fault, colours, edges, m);
     let Verdict::Faulty(why) = verdict else {
         return test_room(layout::bytes_for(layout::file_bits(p, n, e)), room);
     };
@@ -173,11 +177,32 @@ fn edge_in(edges: &[u8], i: usize) -> Edge
     }
 }
 
-// The first fault of a list of edges, three bytes an edge.
-fn test_list(edges: &[u8], n: usize, m: usize) -> Verdict
-    ensures { λ r. ⌜ faultOf r ≡ firstFault n m none (listedFrom 0 (threes (now (edges .entry)))) ⌝ }
+// Whether an edge between states leads from the fault colour to another one. Without a fault colour nothing is looked up.
+fn leaves(fault: FaultColour, colours: &[u8], edge: Edge) -> bool
+    requires { ⌜ (edge .source < length (now colours)) × (edge .target < length (now colours)) ⌝ }
+    ensures { λ r. ⌜ r ≡ leaves (colourOf fault) (at (now (colours .entry))) (edgeOf edge) ⌝ }
 {
+    let FaultColour::Is(colour) = fault else {
+        return false;
+    };
+    let source = edge.source;
+    let target = edge.target;
+    if arrays::wide_byte(colours[source]) != colour {
+        return false;
+    }
+    arrays::wide_byte(colours[target]) != colour
+}
+
+// The first fault of a list of edges, three bytes an edge. 17 counts only where no edge has 7, 8 or 9: the first edge that leaves the
+// fault colour is remembered until all are tested.
+fn test_list(fault: FaultColour, colours: &[u8], edges: &[u8], m: usize) -> Verdict
+    ensures { λ r. ⌜ faultOf r
+        ≡ orElse (firstFault (length (now (colours .entry))) m none (listedFrom 0 (threes (now (edges .entry)))))
+        (firstLeaving (colourOf fault) (now (colours .entry)) (listedFrom 0 (threes (now (edges .entry))))) ⌝ }
+{
+    let n = colours.len();
     let e = edges.len() / 3;
+    let mut found = Verdict::Faultless;
     let mut last = 0;
     let mut i = 0;
     while i < e {
@@ -186,10 +211,13 @@ fn test_list(edges: &[u8], n: usize, m: usize) -> Verdict
         let Verdict::Faultless = verdict else {
             return verdict;
         };
+        if leaves(fault, colours, edge) {
+            found = edges::or_leaving(found, i);
+        }
         last = edges::rank(edge);
         i += 1;
     }
-    Verdict::Faultless
+    found
 }
 
 // Writes the edges behind the colours, from bit `at` on: the room's later part is lent on, with the starting bit inside its

@@ -15,10 +15,10 @@ use Rattle.meaning.specs.Filter.{Filter, states}
 use Rattle.refusals.specs.Refusals.{Outcome, accepted, refused, Test, firstOf, roomTest}
 use Rattle.refusals.proofs.Laws.{numbersBelow}
 use Rattle.layout.specs.declared.Profile.{Profile}
-use Rattle.layout.specs.Layout.{lengthOf}
-use Rattle.edges.specs.Faults.{listedFrom, Fault, firstFault, edgesThen}
+use Rattle.layout.specs.Layout.{faultColour, lengthOf}
+use Rattle.edges.specs.Faults.{listedFrom, Fault, firstFault, firstLeaving, edgesThen}
 use Rattle.files.specs.Files.{writeTests, writeOf}
-use Rattle.files.specs.Places.{listed-small}
+use Rattle.files.specs.Places.{listed-small, listed-leaving}
 use Rattle.drawing.specs.Profile.{InProfile, Longest, filterOf}
 use Rattle.drawing.specs.Reader.{Read, drawing, outside, readOf}
 use Rattle.drawing.specs.Exact.{read-profile, read-outside, longest-one}
@@ -33,16 +33,16 @@ Other o = (place : ℕ) → o ≡ refused 15 place → ⊥
 other-accepted : (vs : List ℕ) → Other (accepted vs)
 other-accepted vs place e = impossible cc
 
-other-refused : (k p : ℕ) → k < 15 → Other (refused k p)
-other-refused k p h place e = let z : k ≡ 15 = cc in omega arith
+other-refused : (k p : ℕ) → (k ≡ 15 → ⊥) → Other (refused k p)
+other-refused k p h place e = h cc
 
 other-test : (b : Bool) (k : ℕ) (next : Outcome) → k < 15 → Other next → Other (pick b (refused k 0) next)
-other-test true k next h o = other-refused k 0 h
+other-test true k next h o = other-refused k 0 (λ z. omega arith)
 other-test false k next h o = o
 
-other-edges : (fault : Option Fault) (next : Outcome) → ((f : Fault) → fault ≡ some f → f .number < 10) → Other next → Other (edgesThen fault next)
+other-edges : (fault : Option Fault) (next : Outcome) → ((f : Fault) → fault ≡ some f → f .number ≡ 15 → ⊥) → Other next → Other (edgesThen fault next)
 other-edges none next h o = o
-other-edges (some f) next h o = other-refused (f .number) (f .place) (omega (arith, h f refl))
+other-edges (some f) next h o = other-refused (f .number) (f .place) (h f refl)
 
 other-first : (ts : List Test) (next : Outcome) → numbersBelow 15 ts ≡ true → Other next → Other (firstOf ts next)
 other-first [] next e o = o
@@ -50,13 +50,14 @@ other-first (t ∷ ts) next e o =
     other-test (t .given) (t .number) (firstOf ts next) (ltb-true (t .number) 15 (and-left (ltb (t .number) 15) (numbersBelow 15 ts) e))
     (other-first ts next (and-right (ltb (t .number) 15) (numbersBelow 15 ts) e) o)
 
--- 14, 2, 3, the edges' 7, 8 and 9, and 10
+-- 14, 2, 3, the edges' 7, 8 and 9, 17, and 10
 write-other : (P : Profile) (F : Filter) (room : ℕ) → Other (writeOf P F true room)
 unfolding writeOf writeTests
 write-other P F room =
     other-first (writeTests P F true) _ refl
-    (other-edges (firstFault (states F) (F .labels) none (listedFrom 0 (F .edges))) _ (λ f e. listed-small (states F) (F .labels) 0 none (F .edges) f e .0)
-    (other-first (roomTest (lengthOf P F) room) (accepted (lengthOf P F ∷ [])) refl (other-accepted (lengthOf P F ∷ []))))
+    (other-edges (firstFault (states F) (F .labels) none (listedFrom 0 (F .edges))) _ (λ f e z. omega (arith, listed-small (states F) (F .labels) 0 none (F .edges) f e .0))
+    (other-edges (firstLeaving (faultColour P) (F .colours) (listedFrom 0 (F .edges))) _ (λ f e z. omega (arith, listed-leaving (faultColour P) (F .colours) 0 (F .edges) f e .0))
+    (other-first (roomTest (lengthOf P F) room) (accepted (lengthOf P F ∷ [])) refl (other-accepted (lengthOf P F ∷ [])))))
 
 -- ---- 15 and its place
 

@@ -12,14 +12,14 @@ use borrow.Author.Tests.{ltb-true}
 use Rattle.meaning.specs.Pick.{pick}
 use Rattle.meaning.specs.Cases.{impossible, cases-of, and-left, and-right}
 use Rattle.refusals.specs.declared.Kind.{Kind}
-use Rattle.refusals.specs.declared.Kind.the-variants.{TooShort, Start, EdgeCount, Missing, Excess, Filling, Outside, Order, Repeated, AnswerRoom, ClassRoom, Room, Observation, Lists, Drawing, Pocket}
+use Rattle.refusals.specs.declared.Kind.the-variants.{TooShort, Start, EdgeCount, Missing, Excess, Filling, Outside, Order, Repeated, AnswerRoom, ClassRoom, Room, Observation, Lists, Drawing, Pocket, Leaving}
 use Rattle.refusals.specs.declared.Refusal.{Refusal}
 use Rattle.refusals.specs.Refusals.{numberOf, Outcome, accepted, refused, refusalOutcome, Test, firstOf, onward, laid, roomAfter, Lent, roomsAfter, Promise}
 
 -- ---- the number tells the kind
 
 kinds : List Kind
-kinds = TooShort ∷ Start ∷ EdgeCount ∷ Missing ∷ Excess ∷ Filling ∷ Outside ∷ Order ∷ Repeated ∷ AnswerRoom ∷ ClassRoom ∷ Room ∷ Observation ∷ Lists ∷ Drawing ∷ Pocket ∷ []
+kinds = TooShort ∷ Start ∷ EdgeCount ∷ Missing ∷ Excess ∷ Filling ∷ Outside ∷ Order ∷ Repeated ∷ AnswerRoom ∷ ClassRoom ∷ Room ∷ Observation ∷ Lists ∷ Drawing ∷ Pocket ∷ Leaving ∷ []
 
 -- the kind in a list that has this number
 kindOf : List Kind → ℕ → Kind
@@ -44,6 +44,7 @@ kind-back Observation = refl
 kind-back Lists = refl
 kind-back Drawing = refl
 kind-back Pocket = refl
+kind-back Leaving = refl
 
 pub number-one : (a b : Kind) → numberOf a ≡ numberOf b → a ≡ b
 number-one a b e = sym (kind-back a) ∙ ap (kindOf kinds) e ∙ kind-back b

@@ -30,6 +30,7 @@ numberOf kind.Observation = 13
 numberOf kind.Lists = 14
 numberOf kind.Drawing = 15
 numberOf kind.Pocket = 16
+numberOf kind.Leaving = 17
 
 -- What a call answers: the values that come back, or a refusal's number and place. With a refusal no other number comes back.
 pub data Outcome : Type 0 where

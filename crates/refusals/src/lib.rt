@@ -19,6 +19,7 @@ pub enum Kind {
     Lists,
     Drawing,
     Pocket,
+    Leaving,
 }
 
 pub struct Refusal {
@@ -54,5 +55,6 @@ pub fn number(kind: Kind) -> u8
         Kind::Lists => 14,
         Kind::Drawing => 15,
         Kind::Pocket => 16,
+        Kind::Leaving => 17,
     }
 }

@@ -1,3 +1,4 @@
+pub mod Marks
 pub mod Faults
 pub mod Laws
 pub mod Steps

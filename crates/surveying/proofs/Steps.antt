@@ -1,11 +1,12 @@
--- The survey of a text's first statements with the test of their edges, and one statement more.
+-- The survey of a text's first statements with the marks of their states and the test of their edges, and one statement more.
 -- Assumes nothing.
 use Prim.Native.Nat.{ℕ, suc, _+_, _-_, _≤_, _<_, _^_}
 use mathlib.Core.Path.{_≡_, refl, sym, ap, ap₂, _∙_}
 use mathlib.Core.List.{List, [], _∷_, _++_, append-nil}
+use mathlib.Core.Option.{Option, none, some}
 use native.Mathlib.Numerals.{add-one}
 use native.Mathlib.Omega.{arith}
-use lib.ListN.{length, length-append}
+use lib.ListN.{length, replicate, length-append}
 use borrow.Author.Tests.{le-ltb}
 use lib.Dec.{eqb}
 use Rattle.meaning.specs.Pick.{pick}
@@ -13,22 +14,24 @@ use Rattle.meaning.specs.Cases.{cases-of}
 use Rattle.meaning.specs.Filter as meaning
 use Rattle.layout.specs.declared.edge.Edge.{Edge}
 use Rattle.layout.specs.Code.{edgeOf}
+use Rattle.edges.specs.Faults.{Fault, orElse}
+use Rattle.edges.specs.Walk.{faultOf}
 use Rattle.spelling.specs.Spelling.{matched}
 use Rattle.spelling.specs.Words.{stands-inside, matched-inside}
 use Rattle.drawing.specs.Profile.{opening, larger, stateLine, stateLines, labelsOf}
 use Rattle.drawing.specs.declared.Statement.the-variants as statement
-use Rattle.drawing.specs.Reader.{Read, drawing, outside, behind, statementAt, statementsFrom, readOf, noState}
+use Rattle.drawing.specs.Reader.{behind, statementAt, statementsFrom, readOf, noState}
 use Rattle.drawing.specs.Lines.{short-parts, statement-state, statement-edge, state-longer, edge-longer}
 use Rattle.surveying.specs.declared.Survey.{Survey}
-use Rattle.surveying.specs.declared.Surveyed.the-variants as answer
 use Rattle.surveying.specs.declared.Testing.{Testing}
-use Rattle.surveying.specs.Surveys.{bound, surveyOf, nextOf, faultAmong, inside, leaves, foundOf, surveyed, Countable, Judged, JudgedOn}
-use Rattle.surveying.proofs.Faults.{judged-none}
+use Rattle.surveying.specs.Surveys.{bound, surveyOf, nextOf, faultIn, inside, leaves, surveyed, Countable, Marked, MarkedOn, leavingIs, Judged, JudgedOn}
+use Rattle.surveying.proofs.Marks.{marked-none}
+use Rattle.surveying.proofs.Faults.{untested, judged-untested, judged-none}
 use Rattle.surveying.proofs.Laws.{begin-more, survey-state, survey-edge, no-edges, joined, joined-none, joined-state, joined-edge}
 
--- The text is read up to a place, `s` is the survey of what was read, and its edges are tested; `left` and one more statements can
--- follow.
-pub record SoFar (text : List ℕ) (at : ℕ) (s : Survey) (t : Testing) : Type 0 where
+-- The text is read up to a place, `s` is the survey of what was read, its states are marked and its edges tested; `left` and one more
+-- statements can follow.
+pub record SoFar (fault : Option ℕ) (text : List ℕ) (at : ℕ) (s : Survey) (words : List ℕ) (t : Testing) : Type 0 where
   pub colours : List ℕ
   pub edges : List meaning.Edge
   pub left : ℕ
@@ -37,7 +40,8 @@ pub record SoFar (text : List ℕ) (at : ℕ) (s : Survey) (t : Testing) : Type 
   pub few : length colours + length edges ≤ at
   pub here : edges ≡ [] → at ≡ 10 + length (stateLines 0 colours)
   pub survey : s ≡ surveyOf colours edges
-  pub judged : Judged (s .states) edges t
+  pub marked : Marked fault colours words
+  pub judged : Judged fault colours edges t
   pub read : readOf text ≡ joined colours edges (statementsFrom (suc left) text at (s .next))
 
 abbrev pub withState : Survey → ℕ → ℕ → Survey
@@ -60,7 +64,7 @@ withEdge s l = record {
   next = 1000;
 }
 
-module _ (text : List ℕ) (at : ℕ) (s : Survey) (t : Testing) (f : SoFar text at s t) where
+module _ (fault : Option ℕ) (text : List ℕ) (at : ℕ) (s : Survey) (words : List ℕ) (t : Testing) (f : SoFar fault text at s words t) where
   -- what was read, and then what follows the next statement
   pub read-on : readOf text ≡ joined (f .colours) (f .edges) (behind text (s .next) (statementsFrom (f .left) text) (statementAt text at (s .next)))
   unfolding statementsFrom
@@ -82,8 +86,16 @@ module _ (text : List ℕ) (at : ℕ) (s : Survey) (t : Testing) (f : SoFar text
   fewer : {end : ℕ} → at < end → end ≤ length text → (f .left ≡ suc (f .left - 1)) × (length text ≤ end + (f .left - 1))
   fewer h l = (omega (arith, f .enough), omega (arith, f .enough))
 
-  pub step-state : (c end : ℕ) → statementAt text at (s .next) ≡ statement.State c end → SoFar text end (withState s c end) t
-  step-state c end e =
+  -- so many states and edges there are
+  states-are : length (f .colours) ≡ s .states
+  states-are = sym (ap (λ (x : Survey). x .states) (f .survey))
+
+  edges-are : length (f .edges) ≡ s .edges
+  edges-are = sym (ap (λ (x : Survey). x .edges) (f .survey))
+
+  pub step-state : (c end : ℕ) (words′ : List ℕ) → statementAt text at (s .next) ≡ statement.State c end → MarkedOn fault (s .states) c words words′ →
+      SoFar fault text end (withState s c end) words′ t
+  step-state c end words′ e on =
       let st = statement-state text at (s .next) c end (f .inside) e in
       let longer = state-longer (s .next) c (st .2) in
       let inside = stands-inside (st .2) (f .inside) in
@@ -102,12 +114,13 @@ module _ (text : List ℕ) (at : ℕ) (s : Survey) (t : Testing) (f : SoFar text
         few = omega (arith, f .few, length-append (f .colours) (c ∷ []));
         here = λ z. ends ∙ sym (begin-more (f .colours) c);
         survey = rw (f .survey, none) (survey-state (f .colours) c end ends);
-        judged = judged-none (s .states) (s .states + 1) t (rw none at (f .judged));
+        marked = on (f .colours) states-are (f .marked);
+        judged = judged-none fault (f .colours) (f .colours ++ (c ∷ [])) t (rw none at (f .judged));
         read = read-on ∙ rw (e, none, add-one (s .next), ← less .0) (joined-state (f .colours) [] c (statementsFrom (f .left) text end (suc (s .next))));
       }
 
-  pub step-edge : (g : Edge) (end : ℕ) (t′ : Testing) → statementAt text at (s .next) ≡ statement.Edge g end → JudgedOn (s .states) (s .edges) g t t′ →
-      SoFar text end (withEdge s (g .label)) t′
+  pub step-edge : (g : Edge) (end : ℕ) (t′ : Testing) → statementAt text at (s .next) ≡ statement.Edge g end → JudgedOn (s .states) words (s .edges) g t t′ →
+      SoFar fault text end (withEdge s (g .label)) words t′
   step-edge g end t′ e on =
       let st = statement-edge text at (s .next) g end (f .inside) e in
       let longer = edge-longer (edgeOf g) (st .1) in
@@ -122,7 +135,8 @@ module _ (text : List ℕ) (at : ℕ) (s : Survey) (t : Testing) (f : SoFar text
         few = omega (arith, f .few, length-append (f .edges) (edgeOf g ∷ []));
         here = λ z. absurd (omega (arith, ap length z, length-append (f .edges) (edgeOf g ∷ [])));
         survey = rw (f .survey) (survey-edge (f .colours) (f .edges) (edgeOf g));
-        judged = on (f .edges) (sym (ap (λ (x : Survey). x .edges) (f .survey))) (f .judged);
+        marked = f .marked;
+        judged = on fault (f .colours) (f .edges) states-are (f .marked) edges-are (f .judged);
         read = read-on ∙ rw (e, ← less .0) (joined-edge (f .colours) (f .edges) (edgeOf g) (statementsFrom (f .left) text end noState));
       }
 
@@ -137,26 +151,32 @@ module _ (text : List ℕ) (at : ℕ) (s : Survey) (t : Testing) (f : SoFar text
       let st = statement-edge text at (s .next) g end (f .inside) e in
       (edge-longer (edgeOf g) (st .1), stands-inside (st .1) (f .inside), short-parts (edgeOf g) (st .0) .1)
 
+  -- what is told of the edges
+  told-is : orElse (faultOf (t .verdict)) (leavingIs (t .leaving)) ≡ faultIn fault (f .colours) (f .edges)
+  told-is = go (faultOf (t .verdict)) refl
+    where
+      go : (own : Option Fault) → faultOf (t .verdict) ≡ own → orElse own (leavingIs (t .leaving)) ≡ faultIn fault (f .colours) (f .edges)
+      go none z = f .judged .leaving z ∙ rw (sym (f .judged .own) ∙ z)
+      go (some x) z = rw (sym (f .judged .own) ∙ z)
+
   -- what is found at the end
   pub closed-is : (end : ℕ) → statementAt text at (s .next) ≡ statement.Closing end →
-      foundOf (pick (eqb end (length text)) (answer.Inside s (t .verdict)) (answer.Outside end)) ≡ surveyed (readOf text)
+      pick (eqb end (length text)) (inside s (orElse (faultOf (t .verdict)) (leavingIs (t .leaving)))) (leaves end) ≡ surveyed fault (readOf text)
   unfolding joined
   closed-is end e = cases-of (eqb end (length text))
-      (λ q. rw (read-on, e, q)
-      (rw (append-nil (f .colours), append-nil (f .edges))
-      (ap₂ inside (f .survey) (f .judged .fault ∙ ap (λ (x : Survey). faultAmong (x .states) (f .edges)) (f .survey)))))
+      (λ q. rw (read-on, e, q) (rw (append-nil (f .colours), append-nil (f .edges)) (ap₂ inside (f .survey) told-is)))
       (λ q. rw (read-on, e, q))
 
-  pub outside-is : (place : ℕ) → statementAt text at (s .next) ≡ statement.Outside place → surveyed (readOf text) ≡ leaves place
+  pub outside-is : (place : ℕ) → statementAt text at (s .next) ≡ statement.Outside place → surveyed fault (readOf text) ≡ leaves place
   unfolding joined
   outside-is place e = rw (read-on, e)
 
 abbrev pub begun : Survey
 begun = record { states = 0; colours = 0; begin = 10; edges = 0; labels = 1; next = 0 }
 
-pub first-of-all : (text : List ℕ) (t : Testing) → 10 ≤ matched text 0 opening → Judged 0 [] t → SoFar text 10 begun t
+pub first-of-all : (fault : Option ℕ) (text : List ℕ) → 10 ≤ matched text 0 opening → SoFar fault text 10 begun (replicate 4 0) untested
 unfolding readOf bound labelsOf stateLines
-first-of-all text t h j =
+first-of-all fault text h =
     let inside = matched-inside text 0 opening (omega arith) in
     let count : suc (length text - 1) ≡ length text = omega (arith, inside) in
     record {
@@ -168,6 +188,7 @@ first-of-all text t h j =
       few = omega arith;
       here = λ z. refl;
       survey = refl;
-      judged = j;
+      marked = marked-none fault;
+      judged = judged-untested fault;
       read = rw (le-ltb (matched text 0 opening) 10 h, count, joined-none (statementsFrom (length text) text 10 0));
     }

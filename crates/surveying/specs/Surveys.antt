@@ -1,17 +1,19 @@
 -- What has to be known of a drawing before its file is written.
 -- Assumes nothing.
-use Prim.Native.Nat.{ℕ, suc, _+_, _<_, _^_}
+use Prim.Native.Nat.{ℕ, zero, suc, _+_, _<_, _^_}
 use mathlib.Core.Path.{_≡_}
-use mathlib.Core.Bool.{Bool, _&&_}
+use mathlib.Core.Bool.{Bool, false, not, _&&_}
 use mathlib.Core.List.{List, [], _∷_, _++_}
 use mathlib.Core.Option.{Option, none, some}
-use lib.Dec.{ltb}
+use lib.Dec.{eqb, ltb}
 use lib.ListN.{length}
 use Rattle.meaning.specs.Pick.{pick}
+use Rattle.meaning.specs.Search.{at}
 use Rattle.meaning.specs.Filter as meaning
+use Rattle.sets.specs.Sets.{contains}
 use Rattle.layout.specs.declared.edge.Edge.{Edge}
 use Rattle.layout.specs.Code.{edgeOf}
-use Rattle.edges.specs.Faults.{listedFrom, Fault, firstFault}
+use Rattle.edges.specs.Faults.{listedFrom, Fault, orElse, firstFault, firstLeaving}
 use Rattle.edges.specs.Walk.{faultOf, Ranked}
 use Rattle.drawing.specs.Profile.{larger, stateLines, labelsOf}
 use Rattle.drawing.specs.Reader.{Read, drawing, outside, readOf, noState}
@@ -43,11 +45,16 @@ surveyOf colours edges = record {
 abbrev pub smaller : ℕ → ℕ → ℕ
 smaller a b = pick (ltb a b) a b
 
--- The first fault of a drawing's edges, among at most 256 states and labels. With more of them a text is 14, whatever its edges are.
+-- 7, 8 and 9 of a drawing's edges, among at most 256 states and labels. With more of them a text is 14, whatever its edges are.
 abbrev pub faultAmong : ℕ → List meaning.Edge → Option Fault
 faultAmong n edges = firstFault (smaller n 256) 256 none (listedFrom 0 edges)
 
--- What is found of a text: its survey and the first fault of its edges; or the place at which it leaves the profile.
+-- The fault of a drawing's edges: the first of 7, 8 and 9; without one, the first 17.
+abbrev pub faultIn : Option ℕ → List ℕ → List meaning.Edge → Option Fault
+faultIn fault colours edges =
+    orElse (faultAmong (length colours) edges) (firstLeaving fault colours (listedFrom 0 edges))
+
+-- What is found of a text: its survey and the fault of its edges; or the place at which it leaves the profile.
 pub data Found : Type 0 where
   inside : Survey → Option Fault → Found
   leaves : ℕ → Found
@@ -56,9 +63,10 @@ abbrev pub foundOf : Surveyed → Found
 foundOf (answer.Inside s verdict) = inside s (faultOf verdict)
 foundOf (answer.Outside place) = leaves place
 
-abbrev pub surveyed : Read → Found
-surveyed (drawing colours edges) = inside (surveyOf colours edges) (faultAmong (length colours) edges)
-surveyed (outside place) = leaves place
+-- `fault` is the fault colour, if there is one.
+abbrev pub surveyed : Option ℕ → Read → Found
+surveyed fault (drawing colours edges) = inside (surveyOf colours edges) (faultIn fault colours edges)
+surveyed fault (outside place) = leaves place
 
 -- A text of the profile and its survey.
 pub record Known (text : List ℕ) (s : Survey) : Type 0 where
@@ -85,11 +93,39 @@ unfoldable pub lastOf : Option meaning.Edge → List meaning.Edge → Option mea
 lastOf before [] = before
 lastOf before (e ∷ es) = lastOf (some e) es
 
--- Edges that were tested: their first fault; without one, the rank of the last of them.
-pub record Judged (n : ℕ) (es : List meaning.Edge) (t : Testing) : Type 0 where
-  pub fault : faultOf (t .verdict) ≡ faultAmong n es
-  pub ranked : faultOf (t .verdict) ≡ none → Ranked (t .last) (lastOf none es)
+-- State k has the fault colour.
+unfoldable pub hasFault : Option ℕ → List ℕ → ℕ → Bool
+hasFault none colours k = false
+hasFault (some fault) colours k = ltb k (length colours) && eqb (at colours k) fault
 
--- The edge behind the first i was tested too.
-abbrev pub JudgedOn : ℕ → ℕ → Edge → Testing → Testing → Type 0
-JudgedOn n i e t t′ = (es : List meaning.Edge) → length es ≡ i → Judged n es t → Judged n (es ++ (edgeOf e ∷ [])) t′
+-- Four words in which the states of the fault colour are marked, as far as a file can have them.
+pub record Marked (fault : Option ℕ) (colours words : List ℕ) : Type 0 where
+  pub long : length words ≡ 4
+  pub says : (k : ℕ) → k < 256 → contains words k ≡ hasFault fault colours k
+
+-- The state behind the first k was marked too, if it has the fault colour.
+abbrev pub MarkedOn : Option ℕ → ℕ → ℕ → List ℕ → List ℕ → Type 0
+MarkedOn fault k colour words words′ =
+    (colours : List ℕ) → length colours ≡ k → Marked fault colours words → Marked fault (colours ++ (colour ∷ [])) words′
+
+-- 17 of an edge by its number, counted from 1; 0: none.
+abbrev pub leavingIs : ℕ → Option Fault
+leavingIs zero = none
+leavingIs (suc i) = some (record { number = 17; place = i })
+
+-- 17 of edge i, as marks tell it.
+abbrev pub leavingBy : List ℕ → ℕ → Edge → Option Fault
+leavingBy words i e =
+    pick (contains words (e .source) && not (contains words (e .target))) (leavingIs (suc i)) none
+
+-- Edges that were tested: their own first fault; without one, the rank of the last of them, and the first that gets 17.
+pub record Judged (fault : Option ℕ) (colours : List ℕ) (es : List meaning.Edge) (t : Testing) : Type 0 where
+  pub own : faultOf (t .verdict) ≡ faultAmong (length colours) es
+  pub ranked : faultOf (t .verdict) ≡ none → Ranked (t .last) (lastOf none es)
+  pub leaving : faultOf (t .verdict) ≡ none → leavingIs (t .leaving) ≡ firstLeaving fault colours (listedFrom 0 es)
+
+-- The edge behind the first i was tested too, among n states with their marks.
+abbrev pub JudgedOn : ℕ → List ℕ → ℕ → Edge → Testing → Testing → Type 0
+JudgedOn n words i e t t′ =
+    (fault : Option ℕ) (colours : List ℕ) (es : List meaning.Edge) → length colours ≡ n → Marked fault colours words → length es ≡ i →
+    Judged fault colours es t → Judged fault colours (es ++ (edgeOf e ∷ [])) t′

@@ -12,15 +12,15 @@ use borrow.Author.Tests.{lt-ltb, ltb-false, not-false}
 use Rattle.meaning.specs.Cases.{and-left}
 use Rattle.meaning.specs.Filter.{states}
 use Rattle.layout.specs.declared.Profile.{Profile}
-use Rattle.layout.specs.Layout.{fromLists}
+use Rattle.layout.specs.Layout.{faultColour, fromLists}
 use Rattle.layout.specs.Contents.{filterIn}
 use Rattle.layout.specs.Code.{Usable}
 use Rattle.layout.proofs.Bounds.{states-pow, labels-pow}
 use Rattle.refusals.specs.Refusals.{Outcome, refused, roomTest}
-use Rattle.edges.specs.Faults.{listedFrom, firstFault}
+use Rattle.edges.specs.Faults.{listedFrom, firstFault, firstLeaving}
 use Rattle.files.specs.Files.{checkOf, holdable, writeTests, writeOf}
 use Rattle.files.specs.Tests.{held}
-use Rattle.files.specs.Places.{Small, small-accepted, small-first, small-onward, listed-small, small-edges, check-small}
+use Rattle.files.specs.Places.{Small, small-accepted, small-first, small-onward, listed-small, small-edges, small-leaving, listed-leaving, check-small}
 use Rattle.unpacking.specs.Promise.{unpackTests, unpackOf}
 use Rattle.unpacking.specs.Promise as unpacking
 use Rattle.packing.specs.Promise.{packOf}
@@ -44,7 +44,9 @@ module _ (P : Profile) (ok : Usable P) where
       let few = ltb-false (states F * m) (length (F .edges)) (p .1 .1 .0) in
       small-edges (firstFault (states F) m none (listedFrom 0 (F .edges))) _
       (λ f e. let r = listed-small (states F) m 0 none (F .edges) f e in (r .0, omega (arith, r .1, most, few)))
-      (small-first (roomTest _ room) _ refl (λ _. small-accepted _))
+      (small-leaving (firstLeaving (faultColour P) cs (listedFrom 0 (F .edges))) _
+      (λ f e. let r = listed-leaving (faultColour P) cs 0 (F .edges) f e in (r .0, omega (arith, r .1, most, few)))
+      (small-first (roomTest _ room) _ refl (λ _. small-accepted _)))
 
   pub reduce-small : (s : List ℕ) (room : folding.Rooms) → Small (reduceOf P s room)
   unfolding reduceOf

@@ -2,8 +2,8 @@
 //! its own colour: a round can part no more than the one state that leads out of its class, so a chain takes two rounds
 //! fewer than it has states.
 
-use crate::file::{Edge, Filter};
-use crate::make::filters::any_colours;
+use crate::file::{Edge, Filter, FAULT};
+use crate::make::filters::{any_colours, recolour};
 use crate::profile::Profile;
 use crate::random::Random;
 use crate::rides::filter_of;
@@ -59,12 +59,15 @@ pub fn chains(profile: Profile, random: &mut Random, n: u64, m: u64, lengths: &[
             }
         }
     }
-    Filter {
+    let mut chains = Filter {
         colours,
         m,
         start,
         edges,
-    }
+    };
+    // Those that have no part in this may be of any colour.
+    recolour(&mut chains, 0);
+    chains
 }
 
 fn any_way(random: &mut Random, n: u64) -> Way {
@@ -74,14 +77,15 @@ fn any_way(random: &mut Random, n: u64) -> Way {
 
 /// The colour of each state, its next in a chain, from the end of one to the next chain and in the tail, and the first state
 /// of all. A chain's last state is the only one of its colour that leads on, and the tail has a colour of its own, so that
-/// neither takes a round.
+/// neither takes a round. Neither has the fault, since all of them lead on.
 fn lines(
     profile: Profile,
     random: &mut Random,
     n: u64,
     lengths: &[u64],
 ) -> (Vec<u64>, Vec<Option<u64>>, u64) {
-    let palette = random.shuffled(profile.top_colour() + 1);
+    let mut palette = random.shuffled(profile.top_colour() + 1);
+    palette.retain(|&colour| colour != FAULT);
     let mut colours = any_colours(profile, random, n);
     let mut next = vec![None; n as usize];
     let order = in_some_order(random, n);

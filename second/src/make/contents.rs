@@ -2,12 +2,13 @@
 
 use crate::case::Case;
 use crate::dot;
-use crate::file::{Edge, Filter};
+use crate::file::{Edge, Filter, FAULT};
 use crate::frame::LONGEST;
 use crate::make::damage::{outside, Damage, Tops};
 use crate::make::filters::{filter, largest, shapes};
 use crate::make::rooms::Room;
 use crate::make::texts::{drawable, framed, in_any_rooms, in_room, text_of};
+use crate::make::ways_out::{any_number, in_each_state, kept, lead_out, two_apart};
 use crate::make::Family;
 use crate::profile::LARGE;
 use crate::random::Random;
@@ -44,6 +45,26 @@ pub const FAMILIES: &[Family<Case>] = &[
         make: faulty_edges,
     },
     Family {
+        name: "texts with edges out of the fault",
+        times: 5,
+        make: ways_out_in_texts,
+    },
+    Family {
+        name: "texts with the fault in each state",
+        times: 1,
+        make: fault_in_each_state,
+    },
+    Family {
+        name: "texts with an edge out of the fault and a faulty one",
+        times: 3,
+        make: ways_out_and_faulty_edges,
+    },
+    Family {
+        name: "texts with the fault kept",
+        times: 5,
+        make: fault_kept,
+    },
+    Family {
         name: "two faults of a text",
         times: 5,
         make: two_faults,
@@ -60,7 +81,8 @@ pub fn numbers_of_states(random: &mut Random) -> Vec<Case> {
     let mut texts = Vec::new();
     for n in [0, 1, 255, 256, 257, 999, 1000, 1001] {
         for e in [0, 1, random.between(2, 5)] {
-            let colours: Vec<u64> = (0..n).map(|_| random.between(0, 63)).collect();
+            // All edges are of state 0, which is not to be the fault.
+            let colours: Vec<u64> = (0..n).map(|_| random.between(0, FAULT - 1)).collect();
             let edge = |label| Edge {
                 source: 0,
                 label,
@@ -218,6 +240,45 @@ pub fn faulty_edges(random: &mut Random) -> Vec<Case> {
     in_any_rooms(texts, random)
 }
 
+pub fn ways_out_in_texts(random: &mut Random) -> Vec<Case> {
+    drawn_in_any_rooms(any_number(LARGE, random), random)
+}
+
+pub fn fault_in_each_state(random: &mut Random) -> Vec<Case> {
+    drawn_in_any_rooms(in_each_state(LARGE, random), random)
+}
+
+fn drawn_in_any_rooms(filters: Vec<Filter>, random: &mut Random) -> Vec<Case> {
+    let texts = filters.into_iter().map(|filter| text_of(&drawable(filter)));
+    in_any_rooms(texts.collect(), random)
+}
+
+/// Each damage behind an edge that leads out of the fault, and before it.
+pub fn ways_out_and_faulty_edges(random: &mut Random) -> Vec<Case> {
+    let mut texts = Vec::new();
+    for kind in DAMAGES {
+        for behind in [true, false] {
+            let mut filter = damageable(random);
+            let (leads_out, at) = two_apart(&filter, kind, behind, random);
+            lead_out(LARGE, &mut filter, &[leads_out], random);
+            damage(&mut filter, kind, at, random);
+            texts.push(text_of(&filter));
+        }
+    }
+    in_any_rooms(texts, random)
+}
+
+/// In each room.
+pub fn fault_kept(random: &mut Random) -> Vec<Case> {
+    let mut cases = Vec::new();
+    for filter in kept(LARGE, random).into_iter().map(drawable) {
+        for room in Room::ALL {
+            cases.push(in_room(text_of(&filter), room, random));
+        }
+    }
+    cases
+}
+
 /// Pairs of refusals that one text and its room can deserve, the one that it gets first.
 pub const PAIRS: &[(u8, u8)] = &[
     (15, 14),
@@ -225,19 +286,26 @@ pub const PAIRS: &[(u8, u8)] = &[
     (15, 7),
     (15, 8),
     (15, 9),
+    (15, 17),
     (15, 10),
     (14, 3),
     (14, 7),
     (14, 8),
     (14, 9),
+    (14, 17),
     (14, 10),
     (3, 7),
     (3, 8),
     (3, 9),
+    (3, 17),
     (3, 10),
+    (7, 17),
     (7, 10),
+    (8, 17),
     (8, 10),
+    (9, 17),
     (9, 10),
+    (17, 10),
 ];
 
 /// One case for each of `PAIRS`.
@@ -248,9 +316,14 @@ pub fn two_faults(random: &mut Random) -> Vec<Case> {
 fn two_of(pair: (u8, u8), random: &mut Random) -> Case {
     let has = |number| pair.0 == number || pair.1 == number;
     let mut filter = damageable(random);
+    if has(17) {
+        lead_out(LARGE, &mut filter, &[0], random);
+    }
     for kind in [Damage::Target, Damage::Before, Damage::EqualSameTarget] {
         if has(kind.number()) {
-            let at = random.pick(&kind.places(&filter));
+            // Not the first place, where it would touch the edge that leads out.
+            let from = usize::from(has(17));
+            let at = random.pick(&kind.places(&filter)[from..]);
             damage(&mut filter, kind, at, random);
         }
     }
@@ -284,7 +357,7 @@ pub fn largest_texts(random: &mut Random) -> Vec<Case> {
         cases.push(in_room(text.clone(), room, random));
     }
     let mut spoilt = full;
-    match random.between(1, 5) {
+    match random.between(1, 6) {
         1 => {
             let at = random.between(1, 16_383) as usize;
             damage(&mut spoilt, Damage::EqualOtherTarget, at, random);
@@ -292,6 +365,7 @@ pub fn largest_texts(random: &mut Random) -> Vec<Case> {
         2 => damage(&mut spoilt, Damage::Before, 16_383, random),
         3 => damage(&mut spoilt, Damage::Target, 16_383, random),
         4 => spoilt.edges[16_383].label = 64,
+        5 => lead_out(LARGE, &mut spoilt, &[16_383], random),
         _ => fill_up(&mut spoilt, random),
     }
     let mut edited = text.clone();

@@ -2,8 +2,8 @@
 
 use crate::case::Case;
 use crate::file::{read, Filter};
-use crate::make::draft::Draft;
-use crate::make::filters::{damageable, filter, large, largest, led, shapes};
+use crate::make::draft::{faults, Draft};
+use crate::make::filters::{damageable, filter, large, largest, led, shapes, turn_back};
 use crate::make::rooms::{any, unused_string, Room};
 use crate::make::Family;
 use crate::profile::{Profile, LARGE, POCKET, PROFILES};
@@ -142,6 +142,7 @@ pub fn one_high_colour(random: &mut Random) -> Vec<Case> {
                 led(POCKET, random, n, m, &[start], 2),
             ] {
                 filter.colours[state as usize] = colour;
+                turn_back(&mut filter);
                 cases.extend(in_each_room(LARGE, &filter, random));
             }
         }
@@ -160,12 +161,12 @@ pub fn far_too_large(random: &mut Random) -> Vec<Case> {
         .collect()
 }
 
-/// A file with each fault from 1 to 9, with room enough and without; of large files one that would else be converted and one
+/// A file with each fault of a file, with room enough and without; of large files one that would else be converted and one
 /// that would not: the file's number comes always.
 pub fn of_faulty_files(random: &mut Random) -> Vec<Case> {
     let mut cases = Vec::new();
-    for number in 1..=9 {
-        for (profile, colour) in [(POCKET, 0), (LARGE, 0), (LARGE, 16)] {
+    for (profile, colour) in [(POCKET, 0), (LARGE, 0), (LARGE, 16)] {
+        for number in faults(profile) {
             for room in [Room::Longer, Room::Empty] {
                 let mut draft = Draft::of(profile, damageable(POCKET, random));
                 draft.filter.colours[0] = colour;

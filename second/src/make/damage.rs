@@ -49,6 +49,13 @@ impl Damage {
         Damage::EqualOtherTarget,
     ];
 
+    /// One that leads to this refusal, 7 to 9.
+    pub fn of(number: u8, random: &mut Random) -> Damage {
+        let mut kinds = Damage::ALL.to_vec();
+        kinds.retain(|damage| damage.number() == number);
+        random.pick(&kinds)
+    }
+
     /// The refusal it leads to.
     pub fn number(self) -> u8 {
         match self {
@@ -105,11 +112,7 @@ impl Damage {
 
 /// Gives one edge a fault of this number, 7 to 9.
 pub fn damage_one(filter: &mut Filter, number: u8, tops: Tops, random: &mut Random) {
-    let kinds: Vec<Damage> = Damage::ALL
-        .into_iter()
-        .filter(|damage| damage.number() == number)
-        .collect();
-    let damage = random.pick(&kinds);
+    let damage = Damage::of(number, random);
     let at = random.pick(&damage.places(filter));
     damage.apply(filter, at, tops, random);
 }

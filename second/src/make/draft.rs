@@ -3,8 +3,16 @@
 use crate::bits::{bytes_of, free_bits, push};
 use crate::file::{Edge, Filter};
 use crate::make::damage::{damage_one, outside, Tops};
-use crate::profile::Profile;
+use crate::make::ways_out::lead_out;
+use crate::profile::{Profile, LARGE};
 use crate::random::Random;
+
+/// The numbers of the faults that a file can have, in the order in which they are told.
+pub fn faults(profile: Profile) -> Vec<u8> {
+    let of_either: Vec<u8> = (1..=9).collect();
+    let of_large: &[u8] = if profile == LARGE { &[17] } else { &[] };
+    [&of_either, of_large].concat()
+}
 
 pub struct Draft {
     pub profile: Profile,
@@ -53,8 +61,8 @@ impl Draft {
         free_bits(self.profile.bits(self.filter.n(), edges) as usize)
     }
 
-    /// Gives it the fault of this number, 1 to 9. For two at once: those of the header first, then the edges', then
-    /// the filling's, then the length's.
+    /// Gives it the fault of this number, one of `faults`; a pocket file, in which 17 is none, gets the same edge. For two at
+    /// once: those of the header first, then the edges', then the filling's, then the length's.
     pub fn spoil(&mut self, number: u8, random: &mut Random) {
         let n = self.filter.n();
         let m = self.filter.m;
@@ -91,6 +99,10 @@ impl Draft {
                 };
             }
             6 => self.filling = random.between(1, (1 << self.free()) - 1),
+            17 => {
+                let at = random.between(0, self.filter.e() - 1) as usize;
+                lead_out(self.profile, &mut self.filter, &[at], random);
+            }
             _ => damage_one(&mut self.filter, number, tops, random),
         }
     }

@@ -2,12 +2,13 @@
 
 use crate::case::Case;
 use crate::dot::can_be_drawn;
-use crate::file::{read, write, Filter};
+use crate::file::{write, Filter};
 use crate::frame::LONGEST;
-use crate::make::draft::Draft;
+use crate::make::draft::{faults, Draft};
 use crate::make::filters::{damageable, filter, largest, shapes};
 use crate::make::rooms::{any, unused_string, Room};
 use crate::make::texts::{drawable, text_of};
+use crate::make::ways_out::kept;
 use crate::make::{files, Family};
 use crate::profile::LARGE;
 use crate::random::Random;
@@ -46,10 +47,10 @@ pub const FAMILIES: &[Family<Case>] = &[
     },
 ];
 
-/// The file drawn in a room of some kind, for the text that it asks for; any room where it asks for none.
+/// The file drawn in a room of some kind, for the text that it asks for, whatever its edges; any room where it asks for none.
 fn in_room(file: Vec<u8>, room: Room, random: &mut Random) -> Case {
-    let wanted = match read(&file) {
-        Ok(filter) if can_be_drawn(&filter) => text_of(&filter).len(),
+    let wanted = match LARGE.unjudged(&file) {
+        Ok((filter, _)) if can_be_drawn(&filter) => text_of(&filter).len(),
         _ => 40,
     };
     let found = room.found(wanted, random);
@@ -81,9 +82,10 @@ pub fn of_the_document(random: &mut Random) -> Vec<Case> {
         .collect()
 }
 
-/// Each shape in each room.
+/// Each shape in each room, and where the fault is kept.
 pub fn drawn(random: &mut Random) -> Vec<Case> {
-    let filters: Vec<Filter> = shapes(LARGE, random).into_iter().map(drawable).collect();
+    let filters = [shapes(LARGE, random), kept(LARGE, random)].concat();
+    let filters: Vec<Filter> = filters.into_iter().map(drawable).collect();
     filters
         .iter()
         .flat_map(|filter| in_each_room(&write(filter), random))
@@ -112,14 +114,14 @@ pub fn not_drawn(random: &mut Random) -> Vec<Case> {
     cases
 }
 
-/// A file with each fault from 1 to 9 that could else be drawn, and one that could not, each with room enough and without:
-/// the file's number comes always.
+/// A file with each fault of a file that could else be drawn, and one that could not, each with room enough and without: the
+/// file's number comes always.
 pub fn of_faulty_files(random: &mut Random) -> Vec<Case> {
     let mut cases = Vec::new();
-    for number in 1..=9 {
+    for number in faults(LARGE) {
         for start in [0, 1] {
             for room in [Room::Longer, Room::Empty] {
-                let mut draft = Draft::of(LARGE, damageable(LARGE, random));
+                let mut draft = Draft::of(LARGE, drawable(damageable(LARGE, random)));
                 draft.filter.start = start;
                 draft.spoil(number, random);
                 cases.push(in_room(draft.bytes(), room, random));
@@ -138,6 +140,12 @@ pub fn of_all_files(random: &mut Random) -> Vec<Case> {
         files::faulty_edge,
         files::faults_in_one_edge,
         files::faulty_edges,
+        files::one_way_out,
+        files::several_ways_out,
+        files::in_each_state,
+        files::way_out_beside_a_faulty_edge,
+        files::faulty_way_out,
+        files::next_to_the_highest,
         files::noise,
         files::noise_behind_header,
         files::headers_alone,

@@ -5,8 +5,9 @@ use crate::file::{Filter, Header};
 use crate::make::damage::{
     one_faulty_edge, several_faults_in_an_edge, two_faulty_edges, Damage, Damaged, Tops,
 };
-use crate::make::draft::Draft;
+use crate::make::draft::{faults, Draft};
 use crate::make::filters::{damageable, filter, large, largest, shapes, small};
+use crate::make::ways_out;
 use crate::profile::Profile;
 use crate::random::Random;
 
@@ -21,6 +22,14 @@ of_each_profile! { Vec<u8>, once in 2:
     "one faulty edge" => 30 * faulty_edge,
     "several faults in one edge" => 8 * faults_in_one_edge,
     "two faulty edges" => 10 * faulty_edges,
+    "one edge out of the highest colour" => 10 * one_way_out,
+    "several edges out of the highest colour" => 10 * several_ways_out,
+    "the highest colour in each state" => 2 * in_each_state,
+    "an edge out of the highest colour beside a faulty one" => 4 * way_out_beside_a_faulty_edge,
+    "a faulty edge out of the highest colour" => 2 * faulty_way_out,
+    "the highest colour kept" => 10 * highest_kept,
+    "the highest colour and the next" => 10 * next_to_the_highest,
+    "the highest colours as it happens" => 40 * as_it_happens,
     "noise" => 6 * noise,
     "noise behind a header that fits" => 100 * noise_behind_header,
     "headers alone" => 40 * headers_alone,
@@ -50,9 +59,12 @@ pub fn one_bit_turned(profile: Profile, random: &mut Random) -> Vec<Vec<u8>> {
     files
 }
 
-/// Of one small file.
+/// Of one small file, which may have the highest colour.
 pub fn every_bit_turned(profile: Profile, random: &mut Random) -> Vec<Vec<u8>> {
-    let file = profile.write(&small(profile, random));
+    let mut filters = ways_out::kept(profile, random);
+    filters.truncate(1);
+    filters.push(small(profile, random));
+    let file = profile.write(&filters[random.between(0, 1) as usize]);
     let turned = |bit| {
         let mut turned = file.clone();
         turn_bit(&mut turned, bit);
@@ -115,36 +127,43 @@ fn spoilt(profile: Profile, numbers: &[u8], random: &mut Random) -> Vec<u8> {
 }
 
 pub fn one_fault(profile: Profile, random: &mut Random) -> Vec<Vec<u8>> {
-    (1..=9)
+    faults(profile)
+        .into_iter()
         .map(|number| spoilt(profile, &[number], random))
         .collect()
 }
 
-/// Pairs of faults that one file can have, in the order in which `Draft::spoil` wants them.
+/// Pairs of faults that one file can have, in the order in which `Draft::spoil` wants them. Those of 17 with 7, 8 and 9 are
+/// families of their own.
 pub const PAIRS: &[(u8, u8)] = &[
     (2, 1),
     (2, 3),
     (2, 7),
     (2, 8),
     (2, 9),
+    (2, 17),
     (2, 6),
     (2, 5),
     (2, 4),
     (3, 7),
     (3, 8),
     (3, 9),
+    (3, 17),
     (3, 6),
     (3, 5),
     (3, 4),
     (7, 6),
     (8, 6),
     (9, 6),
+    (17, 6),
     (7, 5),
     (8, 5),
     (9, 5),
+    (17, 5),
     (7, 4),
     (8, 4),
     (9, 4),
+    (17, 4),
     (6, 5),
 ];
 
@@ -169,6 +188,40 @@ pub fn faults_in_one_edge(profile: Profile, random: &mut Random) -> Vec<Vec<u8>>
 pub fn faulty_edges(profile: Profile, random: &mut Random) -> Vec<Vec<u8>> {
     let all = two_faulty_edges(profile, Tops::of_files(profile), random);
     damaged_written(profile, &all)
+}
+
+pub fn one_way_out(profile: Profile, random: &mut Random) -> Vec<Vec<u8>> {
+    all_written(profile, &ways_out::one_way_out(profile, random))
+}
+
+pub fn several_ways_out(profile: Profile, random: &mut Random) -> Vec<Vec<u8>> {
+    all_written(profile, &ways_out::several_ways_out(profile, random))
+}
+
+pub fn in_each_state(profile: Profile, random: &mut Random) -> Vec<Vec<u8>> {
+    all_written(profile, &ways_out::in_each_state(profile, random))
+}
+
+pub fn way_out_beside_a_faulty_edge(profile: Profile, random: &mut Random) -> Vec<Vec<u8>> {
+    let all = ways_out::beside_a_faulty_edge(profile, Tops::of_files(profile), random);
+    damaged_written(profile, &all)
+}
+
+pub fn faulty_way_out(profile: Profile, random: &mut Random) -> Vec<Vec<u8>> {
+    let all = ways_out::in_a_faulty_edge(profile, Tops::of_files(profile), random);
+    damaged_written(profile, &all)
+}
+
+pub fn highest_kept(profile: Profile, random: &mut Random) -> Vec<Vec<u8>> {
+    all_written(profile, &ways_out::kept(profile, random))
+}
+
+pub fn next_to_the_highest(profile: Profile, random: &mut Random) -> Vec<Vec<u8>> {
+    all_written(profile, &ways_out::next_to_the_highest(profile, random))
+}
+
+pub fn as_it_happens(profile: Profile, random: &mut Random) -> Vec<Vec<u8>> {
+    all_written(profile, &ways_out::as_it_happens(profile, random))
 }
 
 fn damaged_written(profile: Profile, all: &[Damaged]) -> Vec<Vec<u8>> {
@@ -254,7 +307,7 @@ pub fn largest_and_neighbours(profile: Profile, random: &mut Random) -> Vec<Vec<
     vec![exact, longer, shorter]
 }
 
-/// Accepted ones, one with a bit turned, and faults far behind the beginning.
+/// Accepted ones, one with a bit turned, and faults far behind the beginning, of which one is a way out of the highest colour.
 pub fn large_files(profile: Profile, random: &mut Random) -> Vec<Vec<u8>> {
     let any = [(); 3].map(|()| large(profile, random));
     let mut files = all_written(profile, &any);
@@ -274,6 +327,11 @@ pub fn large_files(profile: Profile, random: &mut Random) -> Vec<Vec<u8>> {
         damage.apply(&mut filter, at, tops, random);
         damaged.push(filter);
     }
+    let mut way_out = largest(profile, random);
+    let last = way_out.edges.len() - 1;
+    let at = random.pick(&[last / 2, last]);
+    ways_out::lead_out(profile, &mut way_out, &[at], random);
+    damaged.push(way_out);
     // One state and one label less than there can be, or every number that the fields can say would be inside.
     let damage = random.pick(&[Damage::Source, Damage::Label, Damage::Target]);
     let (n, m) = (profile.most_states() - 1, profile.most_labels() - 1);

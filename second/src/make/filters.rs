@@ -1,7 +1,7 @@
 //! Random filters that a file of a profile may hold.
 
 use crate::bits::free_bits;
-use crate::file::{Edge, Filter};
+use crate::file::{Edge, Filter, FAULT};
 use crate::profile::Profile;
 use crate::random::Random;
 use std::collections::BTreeMap;
@@ -9,24 +9,63 @@ use std::collections::BTreeMap;
 /// A filter of exactly these sizes.
 pub fn filter(profile: Profile, random: &mut Random, n: u64, m: u64, e: u64) -> Filter {
     let colours = any_colours(profile, random, n);
+    with_colours(random, colours, m, e)
+}
+
+/// The same with these colours, a state each.
+pub fn with_colours(random: &mut Random, colours: Vec<u64>, m: u64, e: u64) -> Filter {
+    let n = colours.len() as u64;
     let mut edges = Vec::new();
     // Walks over all pairs in order and takes each with the chance that leaves e of them in the end.
     let mut wanted = e;
     for pair in 0..n * m {
         if random.between(1, n * m - pair) <= wanted {
             wanted -= 1;
+            let source = pair / m;
             edges.push(Edge {
-                source: pair / m,
+                source,
                 label: pair % m,
-                target: random.between(0, n - 1),
+                target: any_target(random, &colours, source),
             });
         }
     }
     Filter {
+        start: random.between(0, n - 1),
         colours,
         m,
-        start: random.between(0, n - 1),
         edges,
+    }
+}
+
+/// Any state that an edge of this one may lead to: from the fault to the fault alone.
+pub fn any_target(random: &mut Random, colours: &[u64], source: u64) -> u64 {
+    let is_fault = |state: u64| colours[state as usize] == FAULT;
+    loop {
+        let target = random.between(0, colours.len() as u64 - 1);
+        if !is_fault(source) || is_fault(target) {
+            return target;
+        }
+    }
+}
+
+/// Leads each edge out of the fault back to where it comes from.
+pub fn turn_back(filter: &mut Filter) {
+    for at in 0..filter.edges.len() {
+        let edge = filter.edges[at];
+        if filter.is_way_out(&edge) {
+            filter.edges[at].target = edge.source;
+        }
+    }
+}
+
+/// Takes the fault from every state that leads out of it and gives it this colour, so that each edge may stay where it leads.
+pub fn recolour(filter: &mut Filter, colour: u64) {
+    let way_out = |filter: &Filter| {
+        let mut edges = filter.edges.iter();
+        edges.find(|edge| filter.is_way_out(edge)).copied()
+    };
+    while let Some(edge) = way_out(filter) {
+        filter.colours[edge.source as usize] = colour;
     }
 }
 
@@ -37,7 +76,7 @@ pub fn any_colours(profile: Profile, random: &mut Random, n: u64) -> Vec<u64> {
 
 /// A filter of n states and m labels whose start, the first of `live`, leads to all of them and to no other state. Of the
 /// pairs of state and label that this does not take, one in `often` has an edge, which leads anywhere from a state that is
-/// not live.
+/// not live. The last of `live` is not needed to lead to another.
 pub fn led(
     profile: Profile,
     random: &mut Random,
@@ -66,7 +105,7 @@ pub fn led(
             }
         }
     }
-    Filter {
+    let mut led = Filter {
         colours: any_colours(profile, random, n),
         m,
         start: live[0],
@@ -78,22 +117,18 @@ pub fn led(
                 target,
             })
             .collect(),
-    }
+    };
+    recolour(&mut led, 0);
+    led
 }
 
 /// The largest file's sizes, and its highest colour somewhere.
 pub fn largest(profile: Profile, random: &mut Random) -> Filter {
     let n = profile.most_states();
-    let mut largest = filter(
-        profile,
-        random,
-        n,
-        profile.most_labels(),
-        profile.most_edges(),
-    );
+    let mut colours = any_colours(profile, random, n);
     let at = random.between(0, n - 1) as usize;
-    largest.colours[at] = profile.top_colour();
-    largest
+    colours[at] = profile.top_colour();
+    with_colours(random, colours, profile.most_labels(), profile.most_edges())
 }
 
 /// Any sizes, so most likely some ten thousand bytes, or some fifty of a pocket file.

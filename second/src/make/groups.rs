@@ -62,8 +62,9 @@ pub fn crowd(profile: Profile, random: &mut Random, groups: u64, members: u64) -
         });
     }
     edges.sort_by_key(|edge| (edge.source, edge.label));
-    let [one, two] = [0, 1].map(|i| i + 2 * random.between(0, profile.top_colour() / 2));
-    let colour = |state| if state == other { one } else { two };
+    // The members' is even: they lead to the other state, and an odd colour may be the fault.
+    let [even, odd] = [0, 1].map(|i| i + 2 * random.between(0, profile.top_colour() / 2));
+    let colour = |state| if state == other { odd } else { even };
     Filter {
         colours: (0..=members).map(colour).collect(),
         m,

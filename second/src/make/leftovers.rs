@@ -3,7 +3,7 @@
 use crate::case::Case;
 use crate::file::{Edge, Filter};
 use crate::make::chains::in_some_order;
-use crate::make::filters::led;
+use crate::make::filters::{led, recolour};
 use crate::make::reduces::{coloured_with, in_rooms, with_enough_room};
 use crate::make::rooms::Room;
 use crate::profile::Profile;
@@ -82,6 +82,7 @@ pub fn the_first_state(profile: Profile, random: &mut Random) -> Vec<Case> {
         target: filter.start,
     };
     filter.edges.insert(0, to_the_start);
+    recolour(&mut filter, 0);
     with_enough_room(profile, &[filter], random)
 }
 
@@ -108,6 +109,7 @@ pub fn leading_to_the_live(profile: Profile, random: &mut Random) -> Vec<Case> {
             edge.target = random.pick(&live);
         }
     }
+    recolour(&mut filter, 0);
     with_enough_room(profile, &[filter], random)
 }
 
@@ -122,6 +124,7 @@ pub fn with_own_colours(profile: Profile, random: &mut Random) -> Vec<Case> {
         let from = if live.contains(&state) { &even } else { &odd };
         *colour = random.pick(from);
     }
+    recolour(&mut filter, odd[0]);
     with_enough_room(profile, &[filter], random)
 }
 

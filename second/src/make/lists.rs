@@ -4,11 +4,11 @@ use crate::case::Case;
 use crate::file::Filter;
 use crate::frame::LONGEST;
 use crate::make::damage::{
-    damage_one, one_faulty_edge, outside, several_faults_in_an_edge, two_faulty_edges, Damage,
-    Damaged, Tops,
+    one_faulty_edge, outside, several_faults_in_an_edge, two_faulty_edges, Damage, Damaged, Tops,
 };
 use crate::make::filters::{damageable, filter, large, largest, shapes, small};
 use crate::make::rooms::{any, Room};
+use crate::make::ways_out;
 use crate::profile::Profile;
 use crate::random::Random;
 
@@ -20,6 +20,10 @@ of_each_profile! { Case, once in 2:
     "lists with one faulty edge" => 20 * faulty_edge,
     "lists with several faults in one edge" => 4 * faults_in_one_edge,
     "lists with two faulty edges" => 10 * faulty_edges,
+    "lists with edges out of the highest colour" => 10 * ways_out_in_lists,
+    "lists with the highest colour in each state" => 2 * in_each_state,
+    "lists with an edge out of the highest colour and a faulty one" => 4 * ways_out_and_faulty_edges,
+    "lists with the highest colour kept" => 10 * highest_kept,
     "two faults in the lists" => 30 * two_faults,
     "random lists" => 300 * random_lists,
     "large lists" => 1 * large_lists,
@@ -37,13 +41,10 @@ struct Lists {
 
 impl Lists {
     fn of(profile: Profile, filter: &Filter) -> Lists {
-        let mut edges = Vec::new();
-        for edge in &filter.edges {
-            edges.extend([edge.source as u8, edge.label as u8, edge.target as u8]);
-        }
+        let (colours, edges) = filter.lists();
         Lists {
             profile,
-            colours: filter.colours.iter().map(|&colour| colour as u8).collect(),
+            colours,
             edges,
             m: filter.m,
             start: filter.start,
@@ -86,10 +87,14 @@ impl Lists {
 
 /// Each shape in each room.
 pub fn accepted(profile: Profile, random: &mut Random) -> Vec<Case> {
+    in_each_room(profile, &shapes(profile, random), random)
+}
+
+fn in_each_room(profile: Profile, filters: &[Filter], random: &mut Random) -> Vec<Case> {
     let mut cases = Vec::new();
-    for filter in shapes(profile, random) {
+    for filter in filters {
         for room in Room::ALL {
-            cases.push(Lists::of(profile, &filter).with_room(room, random));
+            cases.push(Lists::of(profile, filter).with_room(room, random));
         }
     }
     cases
@@ -218,6 +223,27 @@ pub fn faulty_edges(profile: Profile, random: &mut Random) -> Vec<Case> {
     damaged_in_any_rooms(profile, all, random)
 }
 
+pub fn ways_out_in_lists(profile: Profile, random: &mut Random) -> Vec<Case> {
+    let filters = ways_out::any_number(profile, random);
+    in_any_rooms(profile, &filters, random)
+}
+
+pub fn in_each_state(profile: Profile, random: &mut Random) -> Vec<Case> {
+    let filters = ways_out::in_each_state(profile, random);
+    in_any_rooms(profile, &filters, random)
+}
+
+pub fn ways_out_and_faulty_edges(profile: Profile, random: &mut Random) -> Vec<Case> {
+    let mut all = ways_out::beside_a_faulty_edge(profile, Tops::OF_LISTS, random);
+    all.extend(ways_out::in_a_faulty_edge(profile, Tops::OF_LISTS, random));
+    damaged_in_any_rooms(profile, all, random)
+}
+
+/// In each room.
+pub fn highest_kept(profile: Profile, random: &mut Random) -> Vec<Case> {
+    in_each_room(profile, &ways_out::kept(profile, random), random)
+}
+
 fn damaged_in_any_rooms(profile: Profile, all: Vec<Damaged>, random: &mut Random) -> Vec<Case> {
     let filters: Vec<Filter> = all.into_iter().map(|damaged| damaged.filter).collect();
     in_any_rooms(profile, &filters, random)
@@ -230,26 +256,33 @@ fn in_any_rooms(profile: Profile, filters: &[Filter], random: &mut Random) -> Ve
         .collect()
 }
 
-/// Pairs of refusals that one call of pack can deserve, the one that it gets first.
+/// Pairs of refusals that one call of pack can deserve, the one that it gets first. Pocket files get no 17.
 pub const PAIRS: &[(u8, u8)] = &[
     (14, 2),
     (14, 3),
     (14, 7),
     (14, 8),
     (14, 9),
+    (14, 17),
     (14, 10),
     (2, 3),
     (2, 7),
     (2, 8),
     (2, 9),
+    (2, 17),
     (2, 10),
     (3, 7),
     (3, 8),
     (3, 9),
+    (3, 17),
     (3, 10),
+    (7, 17),
     (7, 10),
+    (8, 17),
     (8, 10),
+    (9, 17),
     (9, 10),
+    (17, 10),
 ];
 
 /// One case for each of `PAIRS`.
@@ -261,9 +294,16 @@ pub fn two_faults(profile: Profile, random: &mut Random) -> Vec<Case> {
 fn two_of(profile: Profile, pair: (u8, u8), random: &mut Random) -> Case {
     let has = |number| pair.0 == number || pair.1 == number;
     let mut filter = damageable(profile, random);
+    if has(17) {
+        ways_out::lead_out(profile, &mut filter, &[0], random);
+    }
     for number in 7..=9 {
         if has(number) {
-            damage_one(&mut filter, number, Tops::OF_LISTS, random);
+            let damage = Damage::of(number, random);
+            // Not the first place, where it would touch the edge that leads out.
+            let from = usize::from(has(17));
+            let at = random.pick(&damage.places(&filter)[from..]);
+            damage.apply(&mut filter, at, Tops::OF_LISTS, random);
         }
     }
     let mut lists = Lists::of(profile, &filter);
@@ -287,30 +327,32 @@ fn two_of(profile: Profile, pair: (u8, u8), random: &mut Random) -> Case {
     lists.with_room(room, random)
 }
 
-/// Mostly of a form that leaves the edges to decide.
+/// Mostly of a form that leaves the edges to decide. The highest colours are left by edges as it happens.
 pub fn random_lists(profile: Profile, random: &mut Random) -> Vec<Case> {
     let n = random.between(0, 8);
     let top = profile.top_colour();
-    let colour_top = random.pick(&[3, top, top, top + 7]);
+    let (lowest, highest) = random.pick(&[(0, 3), (0, top), (top - 2, top), (0, top + 7)]);
     let edge_bytes = 3 * random.between(0, 4) + random.pick(&[0, 0, 0, 1]);
     let edge_top = random.pick(&[1, 3, 8, 255]);
     let few_labels = random.between(1, 8);
     let labels = random.between(0, profile.most_labels() + 6);
     let lists = Lists {
         profile,
-        colours: bytes_up_to(colour_top, n, random),
-        edges: bytes_up_to(edge_top, edge_bytes, random),
+        colours: bytes_between(lowest, highest, n, random),
+        edges: bytes_between(0, edge_top, edge_bytes, random),
         m: random.pick(&[few_labels, few_labels, labels]),
         start: random.between(0, 4),
     };
     vec![lists.with_any_room(random)]
 }
 
-fn bytes_up_to(top: u64, count: u64, random: &mut Random) -> Vec<u8> {
-    (0..count).map(|_| random.between(0, top) as u8).collect()
+fn bytes_between(least: u64, most: u64, count: u64, random: &mut Random) -> Vec<u8> {
+    let byte = |_| random.between(least, most) as u8;
+    (0..count).map(byte).collect()
 }
 
-/// The largest file's lists in each room, and lists that are too long by one edge and by far.
+/// The largest file's lists in each room, lists that are too long by one edge and by far, and with an edge that repeats the one
+/// before it or leads out of the highest colour.
 pub fn large_lists(profile: Profile, random: &mut Random) -> Vec<Case> {
     let full = Lists::of(profile, &largest(profile, random));
     let few = Lists::of(profile, &small(profile, random));
@@ -339,5 +381,9 @@ pub fn large_lists(profile: Profile, random: &mut Random) -> Vec<Case> {
         .edges
         .copy_within(3 * damaged - 3..3 * damaged, 3 * damaged);
     cases.push(lists.with_any_room(random));
+    let mut way_out = largest(profile, random);
+    let last = way_out.edges.len() - 1;
+    ways_out::lead_out(profile, &mut way_out, &[last], random);
+    cases.push(Lists::of(profile, &way_out).with_any_room(random));
     cases
 }

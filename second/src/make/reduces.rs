@@ -1,14 +1,15 @@
 //! The families of filters and rooms, for reduce.
 
 use crate::case::Case;
-use crate::file::{read, Edge, Filter};
+use crate::file::{read, Edge, Filter, FAULT};
 use crate::kinds::many_rounds;
 use crate::make::chains::{chains, lengths};
-use crate::make::draft::Draft;
-use crate::make::filters::{damageable, filter, large, largest, led};
+use crate::make::draft::{faults, Draft};
+use crate::make::filters::{damageable, large, largest, led, recolour, turn_back, with_colours};
 use crate::make::groups;
 use crate::make::leftovers;
 use crate::make::rooms::{any, Room};
+use crate::make::ways_out::kept;
 use crate::profile::Profile;
 use crate::random::Random;
 use crate::reduce::reduce;
@@ -41,6 +42,7 @@ of_each_profile! { Case, once in 6:
     "leftovers that would keep live states apart" => 30 * leftovers::keeping_apart,
     "nothing left over, far to the last state" => 3 * leftovers::far_to_the_last,
     "room for the live states alone" => 20 * leftovers::room_for_the_live_alone,
+    "the highest colour kept in a reduction" => 20 * highest_kept,
     "reductions of faulty files" => 5 * of_faulty_files,
 }
 
@@ -105,16 +107,26 @@ fn with_each_room(profile: Profile, filter: &Filter, random: &mut Random) -> Vec
 
 /// A filter of these sizes with no more than so many colours.
 fn coloured(profile: Profile, random: &mut Random, n: u64, m: u64, e: u64, colours: u64) -> Filter {
-    let mut filter = filter(profile, random, n, m, e);
-    coloured_with(profile, &mut filter, colours, random);
-    filter
+    let palette = some_colours(profile, random, colours);
+    let colours = (0..n).map(|_| random.pick(&palette)).collect();
+    with_colours(random, colours, m, e)
+}
+
+fn some_colours(profile: Profile, random: &mut Random, count: u64) -> Vec<u64> {
+    let mut palette = random.shuffled(profile.top_colour() + 1);
+    palette.truncate(count as usize);
+    palette
 }
 
 /// Gives it no more than so many colours.
 pub fn coloured_with(profile: Profile, filter: &mut Filter, colours: u64, random: &mut Random) {
-    let palette = &random.shuffled(profile.top_colour() + 1)[..colours as usize];
+    let palette = some_colours(profile, random, colours);
     for colour in &mut filter.colours {
-        *colour = random.pick(palette);
+        *colour = random.pick(&palette);
+    }
+    // Where there is no other colour, there is no way out of it.
+    if let Some(&other) = palette.iter().find(|&&colour| colour != FAULT) {
+        recolour(filter, other);
     }
 }
 
@@ -217,17 +229,35 @@ pub fn many_colours(profile: Profile, random: &mut Random) -> Vec<Case> {
         let m = random.between(1, 4);
         let e = random.between(0, n * m);
         let palette = random.shuffled(colours);
-        for mut filter in [
-            all_live(profile, random, n, m, 3, 1),
-            filter(profile, random, n, m, e),
-        ] {
-            for (colour, &own) in filter.colours.iter_mut().zip(&palette) {
-                *colour = own;
-            }
-            filters.push(filter);
-        }
+        let mut again = palette.clone();
+        // This one is to be one state's alone.
+        again.retain(|&colour| colour != FAULT);
+        let colour = |state| match palette.get(state as usize) {
+            Some(&own) => own,
+            None => random.pick(&again),
+        };
+        let colours: Vec<u64> = (0..n).map(colour).collect();
+        filters.push(all_live_of(profile, random, m, colours.clone()));
+        filters.push(with_colours(random, colours, m, e));
     }
     with_enough_room(profile, &filters, random)
+}
+
+/// With these colours, in some order, and a start that leads to all states. The fault goes to the last that is led to, which can
+/// do without a way out.
+fn all_live_of(profile: Profile, random: &mut Random, m: u64, mut colours: Vec<u64>) -> Filter {
+    let n = colours.len() as u64;
+    let states = random.shuffled(n);
+    let last = states[states.len() - 1] as usize;
+    if let Some(at) = colours.iter().position(|&colour| colour == FAULT) {
+        colours.swap(at, last);
+    }
+    let mut filter = Filter {
+        colours,
+        ..led(profile, random, n, m, &states, 3)
+    };
+    turn_back(&mut filter);
+    filter
 }
 
 /// No edge leads from the states around the start to the others, which share their colours and may lead back.
@@ -241,6 +271,7 @@ pub fn unreachable_parts(profile: Profile, random: &mut Random) -> Vec<Case> {
             edge.target = random.pick(reached);
         }
     }
+    turn_back(&mut filter);
     with_enough_room(profile, &[filter], random)
 }
 
@@ -355,11 +386,15 @@ pub fn room_for_the_reduced_alone(profile: Profile, random: &mut Random) -> Vec<
     cases
 }
 
-/// A file with each fault from 1 to 9, in rooms that are enough, of which one is short, or both: the file's number comes
-/// always.
+pub fn highest_kept(profile: Profile, random: &mut Random) -> Vec<Case> {
+    let filters = kept(profile, random);
+    with_enough_room(profile, &filters, random)
+}
+
+/// A file with each fault of a file, in rooms that are enough, of which one is short, or both: the file's number comes always.
 pub fn of_faulty_files(profile: Profile, random: &mut Random) -> Vec<Case> {
     let mut cases = Vec::new();
-    for number in 1..=9 {
+    for number in faults(profile) {
         for rooms in [[true, true], [false, true], [true, false], [false, false]] {
             let mut draft = Draft::of(profile, damageable(profile, random));
             draft.spoil(number, random);

@@ -4,11 +4,12 @@ use crate::case::Case;
 use crate::file::{read, Edge, Filter};
 use crate::frame::LONGEST;
 use crate::make::damage::outside;
-use crate::make::draft::Draft;
+use crate::make::draft::{faults, Draft};
 use crate::make::filters::{
-    damageable, filter, large, largest, many_labels, many_states, shapes, small,
+    any_target, damageable, filter, large, largest, many_labels, many_states, shapes, small,
 };
 use crate::make::rooms::{any, Room};
+use crate::make::ways_out::kept;
 use crate::profile::{Profile, LARGE};
 use crate::random::Random;
 use crate::rides::{K, K_OBSERVATIONS, K_REDUCED, R_OBSERVATIONS};
@@ -22,6 +23,7 @@ of_each_profile! { Case, once in 2:
     "labels outside" => 60 * labels_outside,
     "two faults of a trace" => 40 * two_faults,
     "traces through faulty files" => 10 * through_faulty_files,
+    "rides to the highest colour" => 20 * to_the_highest_colour,
     "random observations" => 1500 * random_observations,
     "rides through large files" => 1 * through_large_files,
     "as many observations as a ride takes, and more" => 1 * many_observations,
@@ -125,7 +127,7 @@ fn open(profile: Profile, random: &mut Random, n: u64, m: u64) -> Filter {
                 open.edges.push(Edge {
                     source,
                     label,
-                    target: random.between(0, n - 1),
+                    target: any_target(random, &open.colours, source),
                 });
             }
         }
@@ -277,11 +279,11 @@ pub fn two_faults(profile: Profile, random: &mut Random) -> Vec<Case> {
     cases
 }
 
-/// A file with each fault from 1 to 9, in a trace that is right otherwise, that has a label outside, too short a room,
-/// or both: the file's number comes always.
+/// A file with each fault of a file, in a trace that is right otherwise, that has a label outside, too short a room, or both:
+/// the file's number comes always.
 pub fn through_faulty_files(profile: Profile, random: &mut Random) -> Vec<Case> {
     let mut cases = Vec::new();
-    for number in 1..=9 {
+    for number in faults(profile) {
         for (label_outside, short_room) in
             [(false, false), (true, false), (false, true), (true, true)]
         {
@@ -299,6 +301,20 @@ pub fn through_faulty_files(profile: Profile, random: &mut Random) -> Vec<Case> 
             let mut draft = Draft::of(profile, filter);
             draft.spoil(number, random);
             cases.push(of_bytes(profile, draft.bytes(), observations, room, random));
+        }
+    }
+    cases
+}
+
+/// Along edges and then along any labels, in each room.
+pub fn to_the_highest_colour(profile: Profile, random: &mut Random) -> Vec<Case> {
+    let mut cases = Vec::new();
+    for filter in kept(profile, random) {
+        let count = some_count(random);
+        let (mut observations, _) = walk(&filter, count, random);
+        observations.extend(labels(filter.m, 3, random));
+        for room in Room::ALL {
+            cases.push(in_room(profile, &filter, &observations, room, random));
         }
     }
     cases

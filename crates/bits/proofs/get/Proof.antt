@@ -15,7 +15,7 @@ rem-result c = rw (one-shl (c .before .before .args .width) (omega arith)) (pow-
 returns : tie.Need-returns
 returns c =
     let a = c .before .before .args in
-    let e = field-of-window (now (a .s)) (a .at) (a .width) (32 - a .at % 8 - a .width) (omega arith) in
+    let e = field-of-window (now (a .s)) (a .at) (a .width) 32 (32 - a .at % 8 - a .width) (omega arith) in
     rw (one-shl (a .width) (omega arith), c .window .ensures .0) (sym e, mod-lt _ (pow-pos (a .width)))
 
 pub get-spec : {M : Type 1} → statement M

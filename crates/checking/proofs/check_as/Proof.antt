@@ -1,5 +1,5 @@
 -- `checking::check_as` meets its contract: a refusal before the edges is the answer, and otherwise the first fault of the edges
--- decides. The invariant: no edge before the cursor has a fault. Assumes nothing.
+-- decides, or else 17. The invariant: no edge before the cursor has a fault. Assumes nothing.
 use mathlib.Core.Path.{refl, ap, sym, _∙_}
 use Prim.Native.Nat.{_-_, _^_, _≤_, _<_}
 use native.Mathlib.Omega.{arith}
@@ -92,11 +92,25 @@ returns-2 c =
     sym (check-faulty _ _ _ (is-headed (loop .before .before .before)) _ refl (c .before .verdict .given .0 .0)
     (walk-faulty _ _ _ _ _ _ _ (loop .loop .inv) _ (read .read .ensures .0) (tested .test .result) (tested .test .ensures) (read .before .if1 .taken) _ (ap faultOf (c .before .verdict .given .1))))
 
+first-requires : tie.Need-first-requires Inv-loop μ-loop
+first-requires c κs =
+    let loop = c .before .before in
+    let told = loop .before .before .before in
+    let start = told .before .before .before .before in
+    record {
+      usable = start .pre .0;
+      states = is-headed told .states-are;
+      few = rw (is-headed told .count-is) (count-high _ (start .pre .0) (now (start .args .file)));
+      labels = _;
+      clear = walk-done _ _ _ _ _ _ _ (loop .loop .inv) (c .if1 .left);
+    }
+
 returns-3 : tie.Need-returns-3 Inv-loop μ-loop
 returns-3 c =
-    let loop = c .before .before .loop in
-    let begun = c .before .before .before .before .before in
-    sym (check-faultless _ _ _ (is-headed begun) _ refl (walk-done _ _ _ _ _ _ _ (loop .inv) (c .if1 .left)))
+    let found = c .before in
+    let loop = found .before .before .before in
+    c .told .ensures
+    ∙ sym (check-faultless _ _ _ (is-headed (loop .before .before .before)) _ refl (walk-done _ _ _ _ _ _ _ (loop .loop .inv) (found .before .if1 .left)) _ (sym (found .first .ensures)))
 
 pub check-as-spec : {M : Type 1} → statement M
 check-as-spec =
@@ -118,4 +132,6 @@ check-as-spec =
     loop-again
     (λ c. search needs)
     returns-2
+    first-requires
+    (λ c κs. search needs)
     returns-3)

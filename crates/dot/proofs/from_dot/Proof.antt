@@ -1,5 +1,5 @@
 -- `dot::from_dot` meets its contract. Assumes nothing.
-use mathlib.Core.Path.{_≡_, refl, sym, ap, _∙_}
+use mathlib.Core.Path.{refl, sym, ap, _∙_}
 use borrow.Author.Needs.{needs}
 use denote.Ref.{now}
 use Rattle.refusals.specs.declared.Kind.the-variants.{Drawing}
@@ -13,26 +13,31 @@ use Rattle.dot.proofs.from_dot.Tie as tie
 
 file-requires : tie.Need-file-requires
 file-requires c κs =
-    let known = c .before .before .before in
-    testable-of _ (rw (c .before .large .ensures) large-usable) _ _ _ (sym (ap foundOf (known .surveyed .given .1)) ∙ known .before .before .survey-of .ensures)
+    let known = c .before .before in
+    let survey = known .before .before in
+    testable-of _ (rw (survey .before .large .ensures) large-usable) _ _ _ (sym (ap foundOf (known .surveyed .given .1)) ∙ survey .survey-of .ensures)
 
 returns : tie.Need-returns
-returns c = rw (c .before .before .before .before .large .ensures) at (c .before .before .file .ensures)
+returns c =
+    let file = c .before .before in
+    let survey = file .before .before .before .before .before in
+    rw (survey .before .large .ensures) at (file .file .ensures)
 
 returns-2 : tie.Need-returns-2
 returns-2 c =
     let known = c .before in
-    let a = known .before .before .before .before .before .args in
+    let survey = known .before .before in
+    let a = survey .before .before .before .before .args in
     outside-refused large (now (a .text)) (now (a .room)) (known .surveyed2 .given .0 .0) (record { kind = Drawing; place = known .surveyed2 .given .0 .0 }) refl
-    (outside-of _ _ (sym (ap foundOf (known .surveyed2 .given .1)) ∙ known .before .before .survey-of .ensures))
+    (outside-of _ _ _ (sym (ap foundOf (known .surveyed2 .given .1)) ∙ survey .survey-of .ensures))
 
 pub from-dot-spec : {M : Type 1} → statement M
 from-dot-spec =
     tie.close
     (tie.spec
     (λ c κs. search needs)
-    (λ c. search needs)
     (λ c κs. search needs)
+    (λ c. search needs)
     file-requires
     (λ c. search needs)
     (λ c. search needs)

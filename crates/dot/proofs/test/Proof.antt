@@ -9,10 +9,10 @@ use native.Mathlib.Omega.{arith}
 use borrow.Author.Needs.{needs}
 use borrow.Author.Tests.{not-true, not-false}
 use denote.Ref.{now}
-use Rattle.layout.specs.Layout.{bytesFor, fileLength}
+use Rattle.layout.specs.Layout.{faultColour, bytesFor, fileLength}
 use Rattle.layout.proofs.Bounds.{states-pow, labels-pow}
 use Rattle.refusals.specs.Refusals.{accepted, firstOf, roomTest}
-use Rattle.edges.specs.Faults.{listedFrom, firstFault}
+use Rattle.edges.specs.Faults.{listedFrom, orElse, firstFault, firstLeaving}
 use Rattle.edges.specs.Walk.{faultOf}
 use Rattle.files.specs.Files.{holdable}
 use Rattle.files.specs.Tests.{Held, held}
@@ -61,11 +61,13 @@ returns-2 c =
 
 -- the verdict on a filter that a file can hold
 fault : (c : tie.Else2) → let a = start (c .before .before) .args in
-    faultOf (a .verdict) ≡ firstFault (a .s .states) (a .s .labels) none (listedFrom 0 (edgesOf (readOf (now (a .text)))))
+    let read = readOf (now (a .text)) in
+    let edges = listedFrom 0 (edgesOf read) in
+    faultOf (a .verdict) ≡ orElse (firstFault (a .s .states) (a .s .labels) none edges) (firstLeaving (faultColour (a .p)) (coloursOf read) edges)
 fault c =
     let else1 = c .before .before in
     let pre = start else1 .pre in
-    pre .fault ∙ fault-is _ _ (pre .known) (states≤256 else1) (labels≤256 else1)
+    pre .fault ∙ fault-is _ _ _ (pre .known) (states≤256 else1) (labels≤256 else1)
 
 file-bits-requires : tie.Need-file-bits-requires
 file-bits-requires c κs =

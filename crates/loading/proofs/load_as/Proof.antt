@@ -1,5 +1,5 @@
 -- `loading::load_as` meets its contract: a refusal before the edges is the answer, and otherwise the first fault of the edges
--- decides. The invariant: no edge before the cursor has a fault, and the table has these edges. Assumes nothing.
+-- decides, or else 17. The invariant: no edge before the cursor has a fault, and the table has these edges. Assumes nothing.
 use mathlib.Core.Path.{refl, ap, sym, _∙_}
 use Prim.Native.Nat.{_-_, _^_, _≤_, _<_}
 use native.Mathlib.Omega.{arith}
@@ -12,7 +12,7 @@ use Rattle.edges.proofs.Walks.{walk-near, walk-faulty, walk-done}
 use Rattle.files.specs.Tests.{HeadIs, head-is, head-refused, check-faulty}
 use Rattle.checking.specs.Promise.{checkedOutcome}
 use Rattle.table.specs.Table.{table}
-use Rattle.loading.proofs.Laws.{Filling, filling-begun, filling-room, filling-next, filling-done, loaded-refused, loaded-accepted}
+use Rattle.loading.proofs.Laws.{Filling, filling-begun, filling-room, filling-next, filling-done, loaded-refused, loaded-told}
 use Rattle.loading.proofs.load_as.Statement.{statement}
 use Rattle.loading.proofs.load_as.Tie as tie
 
@@ -117,11 +117,26 @@ returns-2 c =
     (walk-faulty _ _ _ _ _ _ _ (loop .loop .inv .walked) _ (read .read .ensures .0) (tested .test .result) (tested .test .ensures) (read .before .if1 .taken) _ (ap faultOf (c .before .verdict .given .1))))
     (loop .loop .inv .rows)
 
+first-requires : tie.Need-first-requires Inv-loop μ-loop
+first-requires c κs =
+    let loop = c .before .before in
+    let begun = told loop in
+    let start = started begun in
+    record {
+      usable = start .pre .1 .usable;
+      states = is-headed begun .states-are;
+      few = rw (is-headed begun .count-is) (count-high _ (start .pre .1 .usable) (now (start .args .file)));
+      labels = _;
+      clear = walk-done _ _ _ _ _ _ _ (loop .loop .inv .walked) (c .if1 .left);
+    }
+
 returns-3 : tie.Need-returns-3 Inv-loop μ-loop
 returns-3 c =
-    let loop = c .before .before in
-    let clear = walk-done _ _ _ _ _ _ _ (loop .loop .inv .walked) (c .if1 .left) in
-    loaded-accepted _ _ _ _ _ (is-headed (told loop)) clear (filling-done _ _ _ _ _ _ _ _ _ (loop .loop .inv) (c .if1 .left) clear) (loop .loop .inv .rows)
+    let found = c .before in
+    let all = found .before .if1 .left in
+    let loop = found .before .before .before in
+    let clear = walk-done _ _ _ _ _ _ _ (loop .loop .inv .walked) all in
+    loaded-told _ _ _ _ _ _ _ (is-headed (told loop)) (c .told .ensures) (found .first .ensures) clear (filling-done _ _ _ _ _ _ _ _ _ (loop .loop .inv) all clear) (loop .loop .inv .rows)
 
 pub load-as-spec : {M : Type 1} → statement M
 load-as-spec =
@@ -148,6 +163,8 @@ load-as-spec =
     (λ c. search needs)
     (λ c. search needs)
     returns-2
+    first-requires
+    (λ c κs. search needs)
     (λ c. search needs)
     (λ c. search needs)
     returns-3)

@@ -2,7 +2,7 @@
 use mathlib.Core.Path.{_≡_, ap, sym, _∙_}
 use mathlib.Core.Bool.{true, false}
 use mathlib.Core.List.{List, _∷_, []}
-use mathlib.Core.Option.{none}
+use mathlib.Core.Option.{Option, none}
 use Prim.Native.Nat.{ℕ, _*_, _/_, _%_, _≤_}
 use native.Mathlib.Nat.{mul-le-mul, le-trans}
 use native.Mathlib.Omega.{arith}
@@ -12,14 +12,15 @@ use denote.Ref.{now}
 use lib.Dec.{eqb, leb, ltb}
 use lib.ListN.{length}
 use Rattle.meaning.specs.Filter.{Filter}
-use Rattle.layout.specs.Layout.{bytesFor, fileBits, fileLength, lengthOf, threes, fromLists}
+use Rattle.layout.specs.Layout.{faultColour, bytesFor, fileBits, fileLength, lengthOf, threes, fromLists}
 use Rattle.refusals.specs.Refusals.{accepted, firstOf, roomTest}
-use Rattle.edges.specs.Faults.{listedFrom, firstFault, edgesThen}
+use Rattle.edges.specs.Faults.{listedFrom, Fault, orElse, firstFault, firstLeaving, edgesThen}
 use Rattle.files.specs.Files.{holdable, writeTests, writeOf}
 use Rattle.packing.specs.Promise.{packOf}
 use Rattle.edges.specs.Walk.{faultOf}
 use Rattle.layout.proofs.Bounds.{states-pow, labels-pow}
 use Rattle.layout.proofs.EdgeLists.{length-threes}
+use Rattle.edges.proofs.Leaving.{then-then}
 use Rattle.files.specs.Tests.{Held, held}
 use Rattle.packing.proofs.test_lists.Statement.{statement}
 use Rattle.packing.proofs.test_lists.Tie as tie
@@ -67,15 +68,22 @@ starts c = lt-leb _ _ (c .if3 .left)
 few : (c : tie.Else4) → ltb (length (colours (start₃ (c .before))) * start₃ (c .before) .args .m) (length (threes (edges (start₃ (c .before))))) ≡ false
 few c = rw (count (c .before .before)) (le-ltb _ _ (c .if4 .left))
 
+-- 7, 8 and 9 of the edges, and 17
+abbrev own : tie.Start → Option Fault
+own c = firstFault (length (colours c)) (c .args .m) none (listedFrom 0 (threes (edges c)))
+
+abbrev leaving : tie.Start → Option Fault
+leaving c = firstLeaving (faultColour (c .args .p)) (colours c) (listedFrom 0 (threes (edges c)))
+
 -- past the first three numbers: what the edges and the room decide
 tested : (c : tie.Else4) →
     packOf (start₃ (c .before) .args .p) (colours (start₃ (c .before))) (edges (start₃ (c .before))) (start₃ (c .before) .args .m) (start₃ (c .before) .args .start) (start₃ (c .before) .args .room)
-    ≡ edgesThen (firstFault (length (colours (start₃ (c .before)))) (start₃ (c .before) .args .m) none (listedFrom 0 (threes (edges (start₃ (c .before))))))
+    ≡ edgesThen (orElse (own (start₃ (c .before))) (leaving (start₃ (c .before))))
     (firstOf (roomTest (lengthOf (start₃ (c .before) .args .p) (F (start₃ (c .before)))) (start₃ (c .before) .args .room)) (accepted (lengthOf (start₃ (c .before) .args .p) (F (start₃ (c .before))) ∷ [])))
 unfolding packOf writeOf writeTests
-tested c = let e2 = c .before .before in rw (holds (e2 .before), whole e2, starts (c .before), few c)
+tested c = let e2 = c .before .before in rw (holds (e2 .before), whole e2, starts (c .before), few c, then-then (own (start₃ (c .before))) (leaving (start₃ (c .before))))
 
-clear : (c : tie.After-enum-told) → firstFault (length (colours (start₃ (c .before .before .before .before)))) (start₃ (c .before .before .before .before) .args .m) none (listedFrom 0 (threes (edges (start₃ (c .before .before .before .before))))) ≡ none
+clear : (c : tie.After-enum-told) → orElse (own (start₃ (c .before .before .before .before))) (leaving (start₃ (c .before .before .before .before))) ≡ none
 clear c = sym (c .before .before .test-list .ensures) ∙ ap faultOf (c .enum-told .given .1)
 
 length-is : (c : tie.After-bytes-for) → c .bytes-for .result ≡ lengthOf (start₃ (c .before .before .before .before .before .before) .args .p) (F (start₃ (c .before .before .before .before .before .before)))
@@ -133,8 +141,8 @@ returns-5 c =
 returns-6 : tie.Need-returns-6
 returns-6 c =
     let test = c .before .before .before in
-    let fault = sym (test .test-list .ensures) ∙ ap faultOf (c .before .verdict .given .1) in
-    sym (tested (test .before) ∙ rw fault)
+    let is = sym (test .test-list .ensures) ∙ ap faultOf (c .before .verdict .given .1) in
+    sym (tested (test .before) ∙ rw is)
 
 pub test-lists-spec : {M : Type 1} → statement M
 test-lists-spec =
