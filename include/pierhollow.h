@@ -71,7 +71,7 @@ enum pierhollow_refusal {
                                     text of the profile also has; to_dot: start is not 0, or m not the largest label plus one
                                     (without edges: not 1) */
     PIERHOLLOW_POCKET = 16,      /* to_pocket: n above 16, m above 8, or a colour above 15 */
-    PIERHOLLOW_FAULT = 17        /* an edge leads from a state of colour 63 to a state of another colour; place: the first such
+    PIERHOLLOW_LEAVING = 17      /* an edge leads from a state of colour 63 to a state of another colour; place: the first such
                                     edge's source */
 };
 

@@ -88,7 +88,7 @@ static const char *meaning(unsigned number)
         return "no drawing says this: the start is not state 0, or no edge has the last label";
     case PIERHOLLOW_POCKET:
         return "no pocket file holds this: there are more than 16 states or 8 labels, or a colour is above 15";
-    case PIERHOLLOW_FAULT:
+    case PIERHOLLOW_LEAVING:
         return "the edge leaves a fault: it leads from a state of colour 63 to a state of another colour";
     default:
         /* 10 and 11 are about rooms, and the rooms here are always long enough. */
@@ -123,7 +123,7 @@ static void tell_field(unsigned number, uint64_t bit, const struct bytes *file, 
 
 static bool is_of_an_edge(unsigned number)
 {
-    return (number >= PIERHOLLOW_OUTSIDE && number <= PIERHOLLOW_REPEATED) || number == PIERHOLLOW_FAULT;
+    return (number >= PIERHOLLOW_OUTSIDE && number <= PIERHOLLOW_REPEATED) || number == PIERHOLLOW_LEAVING;
 }
 
 void tell_refusal(uint64_t returned, const struct bytes *input, const struct profile *profile)

@@ -627,7 +627,7 @@ static void leave_a_fault(const uint8_t file[18], uint64_t bit, const char *what
     for (size_t i = 0; i < sizeof made / sizeof *made; i++) {
         char told[100];
         snprintf(told, sizeof told, "%s: %s", made[i].call, what);
-        expect_refusal(made[i].returned, PIERHOLLOW_FAULT, bit, told);
+        expect_refusal(made[i].returned, PIERHOLLOW_LEAVING, bit, told);
     }
     expect(all(room, 200, 0xAA) && all(edges, 14, 0xAA) && values_are(values, 4, (const uint64_t[4]){9, 9, 9, 9}) &&
                memcmp(classes, (const uint16_t[4]){7, 7, 7, 7}, sizeof classes) == 0,
@@ -702,8 +702,8 @@ static void leave_a_leftover_fault(void)
     file[5] = 0x1F;
     file[6] = 0x82;
     memset(answer, 0xAA, sizeof answer);
-    expect_refusal(pierhollow_check(file, 13, values), PIERHOLLOW_FAULT, 77, "check of P with colours 0 63 1");
-    expect_refusal(pierhollow_reduce(file, 13, answer, 13, classes, 3, values), PIERHOLLOW_FAULT, 77,
+    expect_refusal(pierhollow_check(file, 13, values), PIERHOLLOW_LEAVING, 77, "check of P with colours 0 63 1");
+    expect_refusal(pierhollow_reduce(file, 13, answer, 13, classes, 3, values), PIERHOLLOW_LEAVING, 77,
                    "reduce of P with colours 0 63 1");
     expect(all(answer, 13, 0xAA) && classes[0] == 7 && values[0] == 9, "reduce of P with a fault leaves the rooms");
 }
@@ -726,11 +726,11 @@ static void pack_faults(void)
     uint8_t edges[12];
     uint8_t room[18];
     uint64_t values[1];
-    pack_refuses(left, k_edges, 2, 0, PIERHOLLOW_FAULT, 2, "pack: 17 at 2");
-    pack_refuses(left, k_edges, 2, 2, PIERHOLLOW_FAULT, 2, "pack: 17 at 2, from state 2");
-    pack_refuses((const uint8_t[3]){63, 63, 1}, k_edges, 2, 0, PIERHOLLOW_FAULT, 1, "pack: 17 at 1");
-    pack_refuses((const uint8_t[3]){63, 1, 1}, k_edges, 2, 0, PIERHOLLOW_FAULT, 0, "pack: 17 at 0");
-    pack_refuses((const uint8_t[3]){0, 1, 63}, k_edges, 2, 0, PIERHOLLOW_FAULT, 3, "pack: 17 at 3");
+    pack_refuses(left, k_edges, 2, 0, PIERHOLLOW_LEAVING, 2, "pack: 17 at 2");
+    pack_refuses(left, k_edges, 2, 2, PIERHOLLOW_LEAVING, 2, "pack: 17 at 2, from state 2");
+    pack_refuses((const uint8_t[3]){63, 63, 1}, k_edges, 2, 0, PIERHOLLOW_LEAVING, 1, "pack: 17 at 1");
+    pack_refuses((const uint8_t[3]){63, 1, 1}, k_edges, 2, 0, PIERHOLLOW_LEAVING, 0, "pack: 17 at 0");
+    pack_refuses((const uint8_t[3]){0, 1, 63}, k_edges, 2, 0, PIERHOLLOW_LEAVING, 3, "pack: 17 at 3");
     pack_refuses(too_high, k_edges, 2, 0, PIERHOLLOW_LISTS, 0, "pack: 14 before 17");
     pack_refuses(left, k_edges, 2, 3, PIERHOLLOW_START, 0, "pack: 2 before 17");
     pack_refuses(left, k_edges, 1, 0, PIERHOLLOW_EDGE_COUNT, 0, "pack: 3 before 17");
@@ -755,10 +755,10 @@ static void draw_faults(void)
 {
     static const char left[] = LEFT_STATES K_EDGES "}\n";
     uint64_t values[1] = {9};
-    from_dot_refuses(left, PIERHOLLOW_FAULT, 2, "from_dot: 17 at 2");
-    from_dot_refuses("digraph {\n0 [label=0];\n1 [label=1];\n2 [label=63];\n" K_EDGES "}\n", PIERHOLLOW_FAULT, 3, "from_dot: 17 at 3");
-    from_dot_refuses("digraph {\n0 [label=63];\n1 [label=63];\n2 [label=1];\n" K_EDGES "}\n", PIERHOLLOW_FAULT, 1, "from_dot: 17 at 1");
-    expect_refusal(pierhollow_from_dot((const uint8_t *)left, sizeof left - 1, NULL, 0, values), PIERHOLLOW_FAULT, 2,
+    from_dot_refuses(left, PIERHOLLOW_LEAVING, 2, "from_dot: 17 at 2");
+    from_dot_refuses("digraph {\n0 [label=0];\n1 [label=1];\n2 [label=63];\n" K_EDGES "}\n", PIERHOLLOW_LEAVING, 3, "from_dot: 17 at 3");
+    from_dot_refuses("digraph {\n0 [label=63];\n1 [label=63];\n2 [label=1];\n" K_EDGES "}\n", PIERHOLLOW_LEAVING, 1, "from_dot: 17 at 1");
+    expect_refusal(pierhollow_from_dot((const uint8_t *)left, sizeof left - 1, NULL, 0, values), PIERHOLLOW_LEAVING, 2,
                    "from_dot: 17 before 10");
     from_dot_refuses(LEFT_STATES K_EDGES "}", PIERHOLLOW_DRAWING, 123, "from_dot: 15 before 17");
     from_dot_refuses("digraph {\n0 [label=64];\n1 [label=63];\n2 [label=1];\n" K_EDGES "}\n", PIERHOLLOW_LISTS, 0,
@@ -785,9 +785,9 @@ static void leave_by_the_last_edge(void)
     expect(pierhollow_pack(colours, 256, edges, sizeof edges, 64, 0, file, sizeof file, values) == 0,
            "pack of the largest with a kept fault");
     file[45252] ^= 0x08;
-    expect_refusal(pierhollow_check(file, sizeof file, values), PIERHOLLOW_FAULT, 361999, "check: 17 of the last edge");
+    expect_refusal(pierhollow_check(file, sizeof file, values), PIERHOLLOW_LEAVING, 361999, "check: 17 of the last edge");
     edges[3 * 16383 + 2] = 254;
-    expect_refusal(pierhollow_pack(colours, 256, edges, sizeof edges, 64, 0, file, sizeof file, values), PIERHOLLOW_FAULT, 16383,
+    expect_refusal(pierhollow_pack(colours, 256, edges, sizeof edges, 64, 0, file, sizeof file, values), PIERHOLLOW_LEAVING, 16383,
                    "pack: 17 of the last edge");
 }
 

@@ -58,6 +58,7 @@ pub record NotBehind (fault : Edge → Edge → Bool) (P : Profile) (file : List
 pub record LeavesFault (P : Profile) (file : List ℕ) (place : ℕ) : Type 0 where
   pub index : ℕ
   pub inside : index < countIn P file
+  pub bits : edgeBegins P file index + edgeBits P ≤ 8 * length file
   pub clear : firstFault (statesIn P file) (labelsIn P file) none (placedIn P file) ≡ none
   pub earlier : firstLeaving (faultColour P) (coloursIn P file) (placedFrom P file (edgesBegin P (statesIn P file)) index) ≡ none
   pub source-at : place ≡ edgeBegins P file index
@@ -230,13 +231,14 @@ module _ (P : Profile) (file : List ℕ) where
       let f : Fault = record { number = number; place = place } in
       let begin = edgesBegin P (statesIn P file) in
       let long = ltb-false (length file) (lengthIn P file) (p .0 .1 .1 .1 .0) in
+      let fits : (i : ℕ) → i < countIn P file → edgeBegins P file i + edgeBits P ≤ 8 * length file =
+      λ i l. omega (arith, long, mul-le-mul {m₁ = suc i} {m₂ = countIn P file} (le-refl (edgeBits P)) l, mul-suc (edgeBits P) i) in
       edges-refused _ _ number place (p .1)
       (λ faults.
       let first = first-of P file (statesIn P file) (labelsIn P file) none begin (countIn P file) f faults in
-      let fits : edgeBits P * suc (first .index) ≤ edgeBits P * countIn P file = mul-le-mul (le-refl (edgeBits P)) (omega (arith, first .inside)) in
       let there : ClearBefore P file (first .index) = record {
         inside = first .inside;
-        bits = omega (arith, long, fits, mul-suc (edgeBits P) (first .index));
+        bits = fits (first .index) (first .inside);
         clear = first .clear;
       } in
       field-named (first .index) f there (first .fault))
@@ -245,6 +247,7 @@ module _ (P : Profile) (file : List ℕ) where
       leaving (first .number) (record {
         index = first .index;
         inside = first .inside;
+        bits = fits (first .index) (first .inside);
         clear = clear;
         earlier = first .earlier;
         source-at = first .place;

@@ -235,7 +235,7 @@ below-at limit [] z h i = z
 below-at limit (x ∷ xs) z h zero = ltb-true x limit (and-left (ltb x limit) (allBelow limit xs) h)
 below-at limit (x ∷ xs) z h (suc i) = below-at limit xs z (and-right (ltb x limit) (allBelow limit xs) h) i
 
--- The fault colour of the one profile, if it has one, is above the colours of the other.
+-- The fault colour of Q, if it has one, is above the colours of P.
 abbrev pub FaultAbove : Profile → Profile → Type 0
 FaultAbove P Q = (c : ℕ) → faultColour Q ≡ some c → 2 ^ P .colour ≤ c
 

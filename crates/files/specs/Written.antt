@@ -355,7 +355,7 @@ checked-in-order P ok s vs h = writable-in-order P (filterIn P s) (read-writable
 
 -- ---- wider files, and the longest
 
--- a file that is at least as wide holds the filter too
+-- a file that is at least as wide, and has no fault colour among the narrower one's colours, holds the filter too
 pub writable-wider : (P Q : Profile) (F : Filter) → P .states ≤ Q .states → P .labels ≤ Q .labels → P .colour ≤ Q .colour → FaultAbove P Q → Writable P F → Writable Q F
 writable-wider P Q F ns ms cs above w = record {
   states-low = w .states-low;

@@ -1,11 +1,11 @@
--- Laws of looking for 17: eight colours looked at as one number, and the edges one by one. Assumes nothing.
-use Prim.Native.Nat.{ℕ, _+_, _*_, _-_, _/_, _%_, _^_, _≤_, _<_}
+-- Laws of looking for 17: eight colours looked at as one number, and edges that ascend. Assumes nothing.
+use Prim.Native.Nat.{ℕ, zero, suc, _+_, _*_, _-_, _/_, _%_, _^_, _≤_, _<_}
 use mathlib.Core.Path.{_≡_, refl, sym, ap, _∙_}
 use mathlib.Core.Bool.{Bool, true, false, not, _&&_}
-use mathlib.Core.List.{List, [], _∷_, map}
+use mathlib.Core.Logic.{_⊎_, inl, inr, ⊎-elim}
+use mathlib.Core.List.{List, [], _∷_}
 use mathlib.Core.Option.{none, some}
-use native.Mathlib.Nat.{div-add-mod', mod-lt, mul-add-div-right, div-lt-iff-lt-mul, mul-comm, add-mul, mul-zero, mul-suc}
-use native.Mathlib.Numerals.{add-one}
+use native.Mathlib.Nat.{div-add-mod', mod-lt, mul-add-div-right, div-lt-iff-lt-mul, mul-comm, add-mul, add-zero, mul-zero, mul-suc, le-trans, lt-of-le-of-lt}
 use native.Mathlib.Omega.{arith}
 use lib.Dec.{eqb, ltb}
 use lib.Pow.{pow-pos, shr-shr}
@@ -18,20 +18,19 @@ use Rattle.sets.proofs.Laws.{holds-none}
 use Rattle.meaning.specs.Search.{any, at}
 use Rattle.meaning.specs.SearchLaws.{any-none}
 use Rattle.meaning.specs.Cases.{cases-of, and-left, and-right, no-both}
-use Rattle.meaning.specs.Filter.{inside, each}
+use Rattle.meaning.specs.Filter.{Edge, inside, comesBefore, leads, ascending}
 use Rattle.meaning.specs.Fault.{leaves}
 use Rattle.layout.specs.declared.Profile.{Profile}
 use Rattle.layout.specs.declared.FaultColour.the-variants.{None, Is}
 use Rattle.layout.specs.declared.edge.Placed.{Placed}
 use Rattle.layout.specs.Layout.{colourOf, faultColour, headerBits, edgeBits, edgesBegin}
-use Rattle.layout.specs.Contents.{statesIn, coloursIn, colourAt, values, placedAt, placedFrom, edgeAt, edgesFrom}
+use Rattle.layout.specs.Contents.{statesIn, coloursIn, colourAt, placedAt, placedFrom, edgeAt, edgesFrom}
 use Rattle.layout.specs.Code.{Usable}
 use Rattle.layout.proofs.Bounds.{states-high, begin-high, place-high}
-use Rattle.layout.proofs.EdgeLists.{placed-cons, each-at}
-use Rattle.edges.specs.Faults.{faulty, firstLeaving}
-use Rattle.edges.proofs.Tests.{fault-free}
-use Rattle.edges.proofs.Leaving.{leaving-here, leaving-next}
-use Rattle.leaving.specs.Leaving.{NoneIs63, Passed, leavingIn}
+use Rattle.layout.proofs.EdgeLists.{each-at}
+use Rattle.edges.specs.Faults.{firstLeaving}
+use Rattle.edges.proofs.Tests.{InOrder, fault-free}
+use Rattle.leaving.specs.Leaving.{NoneIs63, Passed, leavingIn, edgeOf, source, NoneBefore, Halved}
 
 -- ---- eight fields of six bits
 
@@ -76,88 +75,126 @@ top-there x k h =
 -- no top bit is gone: no field is 63
 pub none-is-63 : (eight there gone : ℕ) → ((j : ℕ) → holds there j ≡ (holds eight j && holds tops j)) →
     ((j : ℕ) → holds gone j ≡ (holds there j && not (holds (eight + ones) j))) → gone ≡ 0 → NoneIs63 eight
-none-is-63 eight there gone th gh zero k l is =
+none-is-63 eight there gone th gh is-0 k l is =
     let each = not-false _ (any-none otherwise 8 k l none-otherwise) in
     let one = eqb-true _ 1 (and-left (eqb (ones / 2 ^ (6 * k) % 64) 1) _ each) in
     let top = and-right (eqb (ones / 2 ^ (6 * k) % 64) 1) (holds tops (6 * k + 5)) each in
     let set : holds gone (6 * k + 5) ≡ true = gh (6 * k + 5) ∙ rw (th (6 * k + 5), top-there eight k is, top, top-gone eight k is one) in
-    no-both set (rw zero (holds-none (6 * k + 5)))
+    no-both set (rw is-0 (holds-none (6 * k + 5)))
 
--- the first k of eight: what is not among them is gone
-none-in-front : (eight k : ℕ) → NoneIs63 (eight / 2 ^ (6 * (8 - k))) → (i : ℕ) → i < 8 → i < k → eight / 2 ^ (6 * (7 - i)) % 64 ≡ 63 → ⊥
-none-in-front eight k clear i l m e =
-    let j = 7 - i - (8 - k) in
-    let both : 6 * (8 - k) + 6 * j ≡ 6 * (7 - i) = omega arith in
-    let same : eight / 2 ^ (6 * (8 - k)) / 2 ^ (6 * j) ≡ eight / 2 ^ (6 * (7 - i)) = shr-shr eight (6 * (8 - k)) (6 * j) ∙ ap (λ (w : ℕ). eight / 2 ^ w) both in
-    clear j (omega arith) (rw same e)
-
--- ---- eight states at a time
-
--- No state before s is 63, of n whose colours begin at bit `begin`; and the colour of s would begin at bit `at`.
-pub record Cleared (file : List ℕ) (begin n s at : ℕ) : Type 0 where
-  pub placed : at ≡ begin + 6 * s
-  pub clear : (i : ℕ) → i < s → i < n → field file (begin + 6 * i) 6 ≡ 63 → ⊥
-
-pub cleared-begun : (file : List ℕ) (begin n : ℕ) → Cleared file begin n 0 begin
-cleared-begun file begin n = record { placed = omega arith; clear = λ i l m e. absurd (omega arith) }
-
-pub cleared-next : (file : List ℕ) (begin n s at : ℕ) → Cleared file begin n s at → (eight : ℕ) → eight ≡ field file at 48 → NoneIs63 (eight / 2 ^ (6 * (8 - (n - s)))) →
-    Cleared file begin n (s + 8) (at + 48)
-cleared-next file begin n s at w eight is no63 = record {
-  placed = omega (arith, w .placed);
-  clear = λ i l m e. cases-of (ltb i s) (λ q. w .clear i (ltb-true i s q) m e)
-      (λ q. let high = ltb-false i s q in
-      let there : begin + 6 * i ≡ at + 6 * (i - s) = omega (arith, w .placed) in
-      let whole : 6 * (i - s) + 6 + 6 * (7 - (i - s)) ≡ 48 = omega arith in
-      let f : field file (at + 6 * (i - s)) 6 ≡ 63 = rw there at e in
-      let z : field file at 48 / 2 ^ (6 * (7 - (i - s))) % 64 ≡ 63 = rw whole at (sym (field-within file at (6 * (i - s)) 6 (6 * (7 - (i - s)))) ∙ f) in
-      none-in-front eight (n - s) no63 (i - s) (omega arith) (omega arith) (rw is z));
-}
+-- so none of eight neighbouring fields is
+none-of-eight : (file : List ℕ) (begin eight : ℕ) → eight ≡ field file begin 48 → NoneIs63 eight → (i : ℕ) → i < 8 → field file (begin + 6 * i) 6 ≡ 63 → ⊥
+none-of-eight file begin eight is clear i l e =
+    let whole : 6 * i + 6 + 6 * (7 - i) ≡ 48 = omega arith in
+    let z : field file begin 48 / 2 ^ (6 * (7 - i)) % 64 ≡ 63 = rw whole at (sym (field-within file begin (6 * i) 6 (6 * (7 - i))) ∙ e) in
+    clear (7 - i) (omega arith) (rw is z)
 
 -- ---- colours at their positions
 
-pub colour-at : (P : Profile) (file : List ℕ) (s : ℕ) → s < statesIn P file → at (coloursIn P file) s ≡ colourAt P file s
+colour-at : (P : Profile) (file : List ℕ) (s : ℕ) → s < statesIn P file → at (coloursIn P file) s ≡ colourAt P file s
 unfolding coloursIn colourAt
 colour-at P file s l = run-at file (headerBits P) (P .colour) (statesIn P file) s l ∙ ap (λ (k : ℕ). field file (headerBits P + k) (P .colour)) (mul-comm s (P .colour))
 
 -- a fault colour is 63, in six bits
-pub six-bits : (P : Profile) (file : List ℕ) → Usable P → (c : ℕ) → P .fault ≡ Is c → (s : ℕ) → colourAt P file s ≡ c → field file (headerBits P + 6 * s) 6 ≡ 63
+six-bits : (P : Profile) (file : List ℕ) → Usable P → (c : ℕ) → P .fault ≡ Is c → (s : ℕ) → colourAt P file s ≡ c → field file (headerBits P + 6 * s) 6 ≡ 63
 unfolding colourAt headerBits
 six-bits P file ok c q s e = let six = ok .six-ones c q in rw (six .0, six .1) at e
 
--- ---- edges
+-- ---- edges that ascend
+
+later-source : (a b : Edge) → comesBefore a b ≡ true → a .source ≤ b .source
+unfolding comesBefore
+later-source a b h = cases-of (ltb (a .source) (b .source)) (λ q. omega (arith, ltb-true (a .source) (b .source) q))
+    (λ q. let same : eqb (a .source) (b .source) && ltb (a .label) (b .label) ≡ true = rw q at h in
+    omega (arith, eqb-true (a .source) (b .source) (and-left (eqb (a .source) (b .source)) _ same)))
+
+module _ (P : Profile) (file : List ℕ) where
+  abbrev bits : ℕ
+  bits = edgeBits P
+
+  -- the bit bit which the next edge begins, counted from the first one's or from its own
+  next-bit : (bit k : ℕ) → bit + bits + bits * k ≡ bit + bits * suc k
+  next-bit bit k = omega (arith, mul-suc bits k)
+
+  neighbours : (bit e : ℕ) → ascending (edgesFrom P file bit e) ≡ true → (k : ℕ) → suc k < e → edgeAt P file (bit + bits * k) .source ≤ edgeAt P file (bit + bits * suc k) .source
+  unfolding edgesFrom placedFrom ascending leads edgeAt
+  neighbours bit zero h k l = absurd (omega arith)
+  neighbours bit (suc zero) h k l = absurd (omega arith)
+  neighbours bit (suc (suc e)) h zero l =
+      let next : bit + bits * 1 ≡ bit + bits = omega (arith, mul-suc bits 0) in
+      let lead = comesBefore (edgeAt P file bit) (edgeAt P file (bit + bits)) in
+      rw (mul-zero bits, add-zero bit, next) (later-source _ _ (and-left lead _ h))
+  neighbours bit (suc (suc e)) h (suc k) l =
+      let lead = comesBefore (edgeAt P file bit) (edgeAt P file (bit + bits)) in
+      rw (← next-bit bit k, ← next-bit bit (suc k)) (neighbours (bit + bits) (suc e) (and-right lead _ h) k (omega arith))
+
+  -- 17 of edges that are told apart by their index
+  module _ (c : ℕ) where
+    abbrev goes : Edge → Bool
+    goes e = leaves (some c) (at (coloursIn P file)) e
+
+    first-none : (bit e : ℕ) → ((k : ℕ) → k < e → goes (edgeAt P file (bit + bits * k)) ≡ false) → firstLeaving (some c) (coloursIn P file) (placedFrom P file bit e) ≡ none
+    unfolding placedFrom firstLeaving edgeAt
+    first-none bit zero h = refl
+    first-none bit (suc e) h =
+        let here : goes (edgeAt P file bit) ≡ false = rw (mul-zero bits, add-zero bit) at (h 0 (omega arith)) in
+        rw here (first-none (bit + bits) e (λ k l. rw (next-bit bit k) (h (suc k) (omega arith))))
+
+    first-at : (bit e i : ℕ) → i < e → ((k : ℕ) → k < i → goes (edgeAt P file (bit + bits * k)) ≡ false) → goes (edgeAt P file (bit + bits * i)) ≡ true →
+        firstLeaving (some c) (coloursIn P file) (placedFrom P file bit e) ≡ some (record { number = 17; place = bit + bits * i })
+    unfolding placedFrom placedAt firstLeaving edgeAt
+    first-at bit zero i l h go = absurd (omega arith)
+    first-at bit (suc e) zero l h go =
+        let here : goes (edgeAt P file bit) ≡ true = rw (mul-zero bits, add-zero bit) at go in
+        rw (here, mul-zero bits, add-zero bit)
+    first-at bit (suc e) (suc i) l h go =
+        let here : goes (edgeAt P file bit) ≡ false = rw (mul-zero bits, add-zero bit) at (h 0 (omega arith)) in
+        rw (here, ← next-bit bit i) (first-at (bit + bits) e i (omega arith) (λ k m. rw (next-bit bit k) (h (suc k) (omega arith))) (rw (next-bit bit i) go))
 
 -- without a fault colour no edge leaves it
-pub never-leaves : (colours : List ℕ) (es : List Placed) → firstLeaving none colours es ≡ none
+never-leaves : (colours : List ℕ) (es : List Placed) → firstLeaving none colours es ≡ none
 unfolding firstLeaving leaves
 never-leaves colours [] = refl
 never-leaves colours (d ∷ es) = never-leaves colours es
 
--- nor where no state of an edge's source has it
-none-leaves : (c : ℕ) (colours : List ℕ) (n m : ℕ) → ((s : ℕ) → s < n → at colours s ≡ c → ⊥) →
-    (es : List Placed) → each (inside n m) (map values es) ≡ true → firstLeaving (some c) colours es ≡ none
-unfolding firstLeaving leaves each inside
-none-leaves c colours n m other [] all = refl
-none-leaves c colours n m other (d ∷ es) all =
-    let s = ltb (d .source .value) n in
-    let rest = ltb (d .label .value) m && ltb (d .target .value) n in
-    let low = ltb-true (d .source .value) n (and-left s rest (and-left (s && rest) (each (inside n m) (map values es)) all)) in
-    rw (ne-eqb (at colours (d .source .value)) c (other (d .source .value) low)) (none-leaves c colours n m other es (and-right (s && rest) (each (inside n m) (map values es)) all))
-
--- No edge before edge i leaves colour c, edge i begins at bit `bit`, and state `other`, if it is one, has another colour.
-pub record Looked (P : Profile) (file : List ℕ) (n e c bit other i : ℕ) : Type 0 where
+-- Edges before edge i have a source before state s or do not leave colour c, and those from it on have no source before s.
+pub record Going (P : Profile) (file : List ℕ) (n e c s i : ℕ) : Type 0 where
   pub within : i ≤ e
-  pub placed : bit ≡ edgesBegin P n + edgeBits P * i
-  pub left : leavingIn P file n e ≡ firstLeaving (some c) (coloursIn P file) (placedFrom P file bit (e - i))
-  pub apart : other < n → colourAt P file other ≡ c → ⊥
+  pub before : (k : ℕ) → k < i → (source P file n k < s) ⊎ (leaves (some c) (at (coloursIn P file)) (edgeOf P file n k) ≡ false)
+  pub behind : (k : ℕ) → i ≤ k → k < e → s ≤ source P file n k
+
+-- ---- the edges of a file that have passed
 
 module _ (P : Profile) (file : List ℕ) (n e : ℕ) (passed : Passed P file n e) where
-  all-inside : each (inside n (passed .labels)) (edgesFrom P file (edgesBegin P n) e) ≡ true
+  abbrev from : ℕ → ℕ
+  from k = source P file n k
+
+  in-order : InOrder n (passed .labels) none (edgesFrom P file (edgesBegin P n) e)
   unfolding edgesFrom
-  all-inside = fault-free n (passed .labels) none (placedFrom P file (edgesBegin P n) e) (passed .clear) .all-inside
+  in-order = fault-free n (passed .labels) none (placedFrom P file (edgesBegin P n) e) (passed .clear)
 
   pub few-states : n ≤ 256
   few-states = rw (passed .states) (states-high P (passed .usable) file)
+
+  pub near : (i : ℕ) → i ≤ e → edgesBegin P n + edgeBits P * i < 2 ^ 62
+  near i l = omega (arith, place-high P (passed .usable) (edgesBegin P n) i (begin-high P (passed .usable) n few-states) (omega (arith, passed .few)))
+
+  -- an edge's ends are states
+  pub ends : (k : ℕ) → k < e → (edgeOf P file n k .source < n) × (edgeOf P file n k .target < n)
+  unfolding inside
+  ends k l =
+      let d = edgeOf P file n k in
+      let s = ltb (d .source) n in
+      let y = ltb (d .label) (passed .labels) in
+      let t = ltb (d .target) n in
+      let here = each-at P (inside n (passed .labels)) file (edgesBegin P n) e (in-order .all-inside) k l in
+      (ltb-true _ _ (and-left s (y && t) here), ltb-true _ _ (and-right y t (and-right s (y && t) here)))
+
+  sorted : (k j : ℕ) → k ≤ j → j < e → from k ≤ from j
+  sorted k zero le l = let z : k ≡ 0 = omega arith in rw z (omega arith)
+  sorted k (suc j) le l = cases-of (ltb k (suc j))
+      (λ q. le-trans (sorted k j (omega (arith, ltb-true k (suc j) q)) (omega arith)) (neighbours P file (edgesBegin P n) e (in-order .ascend) j l))
+      (λ q. let z : k ≡ suc j = omega (arith, ltb-false k (suc j) q) in rw z (omega arith))
 
   hue-at : (s : ℕ) → s < n → at (coloursIn P file) s ≡ colourAt P file s
   hue-at s l = colour-at P file s (rw (← passed .states) l)
@@ -165,94 +202,98 @@ module _ (P : Profile) (file : List ℕ) (n e : ℕ) (passed : Passed P file n e
   pub found-never : P .fault ≡ None → leavingIn P file n e ≡ none
   found-never q = rw (ap colourOf q) (never-leaves (coloursIn P file) (placedFrom P file (edgesBegin P n) e))
 
-  -- there is a fault colour
+  -- ---- halving
+
+  module _ (s : ℕ) where
+    pub halved-begun : Halved P file n e s 0 e
+    halved-begun = record { ordered = omega arith; within = omega arith; before = λ k l. absurd (omega arith); behind = λ k l m. absurd (omega arith) }
+
+    module _ (low high middle : ℕ) (w : Halved P file n e s low high) (l : low ≤ middle) (h : middle < high) where
+      pub halved-low : from middle < s → Halved P file n e s (middle + 1) high
+      halved-low is = record {
+        ordered = omega arith;
+        within = w .within;
+        before = λ k m. lt-of-le-of-lt (sorted k middle (omega arith) (omega (arith, w .within))) is;
+        behind = w .behind;
+      }
+
+      pub halved-high : s ≤ from middle → Halved P file n e s low middle
+      halved-high is = record {
+        ordered = l;
+        within = omega (arith, w .within);
+        before = w .before;
+        behind = λ k m o. le-trans is (sorted middle k m o);
+      }
+
+  -- ---- there is a fault colour
+
   module _ (c : ℕ) (q : P .fault ≡ Is c) where
     is-fault : faultColour P ≡ some c
     is-fault = ap colourOf q
 
-    -- and no state has it
-    pub found-none : ((s : ℕ) → s < n → field file (headerBits P + 6 * s) 6 ≡ 63 → ⊥) → leavingIn P file n e ≡ none
-    unfolding edgesFrom
-    found-none clear =
-        rw is-fault
-        (none-leaves c (coloursIn P file) n (passed .labels)
-        (λ s l is. clear s l (six-bits P file (passed .usable) c q s (sym (hue-at s l) ∙ is)))
-        (placedFrom P file (edgesBegin P n) e) all-inside)
+    abbrev leaving : ℕ → Bool
+    leaving k = leaves (some c) (at (coloursIn P file)) (edgeOf P file n k)
 
-    pub looked-begun : Looked P file n e c (edgesBegin P n) 256 0
-    looked-begun =
-        let z : e - 0 ≡ e = omega arith in
-        record {
-          within = omega arith;
-          placed = rw (mul-zero (edgeBits P)) (omega arith);
-          left = rw (is-fault, z);
-          apart = λ l. absurd (omega (arith, few-states));
-        }
+    source-other : (k : ℕ) → k < e → (colourAt P file (from k) ≡ c → ⊥) → leaving k ≡ false
+    unfolding leaves
+    source-other k l differs = rw (ne-eqb (at (coloursIn P file) (from k)) c (λ is. differs (sym (hue-at (from k) (ends k l .0)) ∙ is)))
 
-    module _ (bit other i : ℕ) (w : Looked P file n e c bit other i) where
-      pub looked-near : bit < 2 ^ 63
-      looked-near = omega (arith, w .placed, place-high P (passed .usable) (edgesBegin P n) i (begin-high P (passed .usable) n few-states) (omega (arith, w .within, passed .few)))
+    -- all states are passed
+    pub none-left : (s : ℕ) → n ≤ s → NoneBefore P file n e c s → leavingIn P file n e ≡ none
+    none-left s all clear = rw is-fault (first-none P file c (edgesBegin P n) e (λ k l. clear k l (omega (arith, ends k l .0))))
 
-      -- all edges are passed
-      pub looked-done : e ≤ i → leavingIn P file n e ≡ none
-      unfolding placedFrom firstLeaving
-      looked-done all = let z : e - i ≡ 0 = omega arith in w .left ∙ rw z
+    pub none-begun : NoneBefore P file n e c 0
+    none-begun k l m = absurd (omega arith)
 
-      -- edge i is read
-      module _ (edge : Placed) (read : edge ≡ placedAt P file bit) (more : i < e) where
-        ahead : leavingIn P file n e ≡ firstLeaving (some c) (coloursIn P file) (edge ∷ placedFrom P file (bit + edgeBits P) (e - (i + 1)))
-        ahead = w .left ∙ ap (firstLeaving (some c) (coloursIn P file)) (placed-cons P file bit e i more ∙ ap (λ (d : Placed). d ∷ placedFrom P file (bit + edgeBits P) (e - (i + 1))) (sym read))
+    pub none-eight : (s eight : ℕ) → NoneBefore P file n e c s → eight ≡ field file (headerBits P + 6 * s) 48 → NoneIs63 eight → NoneBefore P file n e c (s + 8)
+    none-eight s eight clear is no63 k l m = cases-of (ltb (from k) s) (λ b. clear k l (ltb-true (from k) s b))
+        (λ b. let high = ltb-false (from k) s b in
+        let there : headerBits P + 6 * s + 6 * (from k - s) ≡ headerBits P + 6 * from k = omega arith in
+        source-other k l (λ f. none-of-eight file (headerBits P + 6 * s) eight is no63 (from k - s) (omega arith) (rw there (six-bits P file (passed .usable) c q (from k) f))))
 
-        -- its ends are states
-        pub looked-ends : (edge .source .value < n) × (edge .target .value < n)
-        unfolding inside edgeAt
-        looked-ends =
-            let here : inside n (passed .labels) (values edge) ≡ true =
-            rw (read, w .placed) (each-at P (inside n (passed .labels)) file (edgesBegin P n) e all-inside i more) in
-            let s = ltb (edge .source .value) n in
-            let l = ltb (edge .label .value) (passed .labels) in
-            let t = ltb (edge .target .value) n in
-            (ltb-true _ _ (and-left s (l && t) here), ltb-true _ _ (and-right l t (and-right s (l && t) here)))
+    pub none-other : (s : ℕ) → NoneBefore P file n e c s → (colourAt P file s ≡ c → ⊥) → NoneBefore P file n e c (s + 1)
+    none-other s clear differs k l m = cases-of (ltb (from k) s) (λ b. clear k l (ltb-true (from k) s b))
+        (λ b. let same : from k ≡ s = omega (arith, ltb-false (from k) s b) in source-other k l (rw same differs))
 
-        source-hue : at (coloursIn P file) (edge .source .value) ≡ colourAt P file (edge .source .value)
-        source-hue = hue-at _ (looked-ends .0)
+    -- ---- the edges of a state
 
-        target-hue : at (coloursIn P file) (edge .target .value) ≡ colourAt P file (edge .target .value)
-        target-hue = hue-at _ (looked-ends .1)
+    module _ (s : ℕ) where
+      pub going-begun : (i : ℕ) → Halved P file n e s i i → Going P file n e c s i
+      going-begun i w = record { within = w .within; before = λ k l. inl (w .before k l); behind = w .behind }
 
-        abbrev goes : Bool
-        goes = leaves (some c) (at (coloursIn P file)) (values edge)
+      module _ (i : ℕ) (w : Going P file n e c s i) where
+        -- no edge before it leaves
+        passed-by : NoneBefore P file n e c s → (k : ℕ) → k < i → leaving k ≡ false
+        passed-by clear k l = ⊎-elim (λ low. clear k (omega (arith, w .within)) low) (λ stays. stays) (w .before k l)
 
-        -- it does not leave, and another state that has another colour is known
-        next : goes ≡ false → (other′ : ℕ) → (other′ < n → colourAt P file other′ ≡ c → ⊥) → Looked P file n e c (bit + edgeBits P) other′ (i + 1)
-        next stays other′ apart = record {
-          within = omega arith;
-          placed = rw (add-one i, mul-suc (edgeBits P) i) (omega (arith, w .placed));
-          left = ahead ∙ leaving-next (some c) (coloursIn P file) edge _ stays;
-          apart = apart;
-        }
+        pub going-end : e ≤ i → NoneBefore P file n e c s → NoneBefore P file n e c (s + 1)
+        going-end all clear k l m = passed-by clear k (omega arith)
 
-        -- its source has another colour
-        source-other : (colourAt P file (edge .source .value) ≡ c → ⊥) → goes ≡ false
+        pub going-other : i < e → (from i ≡ s → ⊥) → NoneBefore P file n e c s → NoneBefore P file n e c (s + 1)
+        going-other more differs clear k l m = cases-of (ltb k i) (λ b. passed-by clear k (ltb-true k i b))
+            (λ b. let up = sorted i k (ltb-false k i b) l in
+            let least = w .behind i (omega arith) more in
+            absurd (differs (omega arith)))
+
+        pub going-on : i < e → from i ≡ s → colourAt P file s ≡ c → colourAt P file (edgeOf P file n i .target) ≡ c → Going P file n e c s (i + 1)
         unfolding leaves
-        source-other differs = rw (ne-eqb (at (coloursIn P file) (edge .source .value)) c (λ is. differs (sym source-hue ∙ is)))
+        going-on more same is to =
+            let stays : leaving i ≡ false = rw (
+              eq-eqb (at (coloursIn P file) (from i)) c (hue-at (from i) (ends i more .0) ∙ ap (colourAt P file) same ∙ is),
+              eq-eqb (at (coloursIn P file) (edgeOf P file n i .target)) c (hue-at _ (ends i more .1) ∙ to),
+            ) in
+            record {
+              within = omega arith;
+              before = λ k l. cases-of (ltb k i) (λ b. w .before k (ltb-true k i b)) (λ b. let z : k ≡ i = omega (arith, ltb-false k i b) in inr (rw z stays));
+              behind = λ k l m. w .behind k (omega arith) m;
+            }
 
-        pub looked-same : edge .source .value ≡ other → Looked P file n e c (bit + edgeBits P) other (i + 1)
-        looked-same same = next (source-other (rw same (w .apart (rw (← same) (looked-ends .0))))) other (w .apart)
-
-        pub looked-other : (colourAt P file (edge .source .value) ≡ c → ⊥) → Looked P file n e c (bit + edgeBits P) (edge .source .value) (i + 1)
-        looked-other differs = next (source-other differs) (edge .source .value) (λ l. differs)
-
-        -- it stays within the colour
-        pub looked-within : colourAt P file (edge .source .value) ≡ c → colourAt P file (edge .target .value) ≡ c → Looked P file n e c (bit + edgeBits P) other (i + 1)
+        pub going-leaves : i < e → from i ≡ s → colourAt P file s ≡ c → (colourAt P file (edgeOf P file n i .target) ≡ c → ⊥) → NoneBefore P file n e c s →
+            leavingIn P file n e ≡ some (record { number = 17; place = edgesBegin P n + edgeBits P * i })
         unfolding leaves
-        looked-within s t =
-            next (rw (eq-eqb (at (coloursIn P file) (edge .source .value)) c (source-hue ∙ s), eq-eqb (at (coloursIn P file) (edge .target .value)) c (target-hue ∙ t))) other (w .apart)
-
-        -- it leaves it
-        pub looked-leaves : colourAt P file (edge .source .value) ≡ c → (colourAt P file (edge .target .value) ≡ c → ⊥) → leavingIn P file n e ≡ faulty 17 (edge .source)
-        unfolding leaves
-        looked-leaves s t =
-            ahead
-            ∙ leaving-here (some c) (coloursIn P file) edge _
-            (rw (eq-eqb (at (coloursIn P file) (edge .source .value)) c (source-hue ∙ s), ne-eqb (at (coloursIn P file) (edge .target .value)) c (λ is. t (sym target-hue ∙ is))))
+        going-leaves more same is to clear =
+            let goes-on : leaving i ≡ true = rw (
+              eq-eqb (at (coloursIn P file) (from i)) c (hue-at (from i) (ends i more .0) ∙ ap (colourAt P file) same ∙ is),
+              ne-eqb (at (coloursIn P file) (edgeOf P file n i .target)) c (λ f. to (sym (hue-at _ (ends i more .1)) ∙ f)),
+            ) in
+            rw is-fault (first-at P file c (edgesBegin P n) e i more (passed-by clear) goes-on)

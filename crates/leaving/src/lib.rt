@@ -1,19 +1,22 @@
-// The first edge of a file that leaves the fault colour, looked for when every edge has passed 7, 8 and 9.
+// The first edge of a file that leaves the fault colour, looked for when every edge has passed 7, 8 and 9. Edges ascend by their
+// sources: those of a state stand side by side and are found by halving, so that only edges out of a state of that colour are read again.
 use edges::Verdict;
 use layout::FaultColour;
 use layout::Profile;
+use layout::edge::Placed;
 use refusals::Kind;
 use refusals::Refusal;
 ghost use mathlib.Core.Path.{_≡_};
 ghost use mathlib.Core.Bool.{false};
 ghost use mathlib.Core.Option.{some};
-ghost use Prim.Native.Nat.{ℕ, _+_, _*_, _-_, _/_, _^_, _≤_, _<_};
-ghost use Rattle.bits.specs.Bits.{field};
+ghost use Prim.Native.Nat.{_+_, _*_, _^_, _≤_, _<_};
 ghost use Rattle.layout.specs.declared.FaultColour.the-variants.{Is};
+ghost use Rattle.layout.specs.Layout.{edgeBits, edgesBegin};
+ghost use Rattle.layout.specs.Contents.{colourAt, placedAt};
+ghost use Rattle.layout.specs.Code.{Usable};
 ghost use Rattle.edges.specs.Walk.{faultOf};
-ghost use Rattle.leaving.specs.Leaving.{Passed, leavingIn, NoneIs63};
+ghost use Rattle.leaving.specs.Leaving.{Passed, leavingIn, EdgesOf, Halved, NoneIs63};
 
-// Most files have no state of the fault colour, and of these no edge has to be read again.
 pub fn first(p: Profile, file: &[u8], n: usize, e: usize) -> Verdict
     requires { ⌜ Passed p (now file) n e ⌝ }
     ensures { λ r. ⌜ faultOf r ≡ leavingIn p (now (file .entry)) n e ⌝ }
@@ -22,41 +25,33 @@ pub fn first(p: Profile, file: &[u8], n: usize, e: usize) -> Verdict
     let FaultColour::Is(colour) = fault else {
         return Verdict::Faultless;
     };
-    if !some_state(file, layout::header_bits(p), n) {
-        return Verdict::Faultless;
-    }
-    first_edge(p, colour, file, n, e)
+    first_by_states(p, colour, file, n, e)
 }
 
-// Whether one of n states may have the colour 63; colours of six bits, the first of which begins at bit `begin`. Eight are looked at
-// in one go.
-fn some_state(file: &[u8], begin: usize, n: usize) -> bool
-    requires { ⌜ (begin ≤ 48) × (n ≤ 256) ⌝ }
-    ensures { λ r. ⌜ (r ≡ false → (s : ℕ) → s < n → field (now (file .entry)) (begin + 6 * s) 6 ≡ 63 → ⊥) ⌝ }
+// State by state; eight of them in one go where none of these has the colour.
+fn first_by_states(p: Profile, colour: usize, file: &[u8], n: usize, e: usize) -> Verdict
+    requires { ⌜ Passed p (now file) n e × (p .fault ≡ Is colour) ⌝ }
+    ensures { λ r. ⌜ faultOf r ≡ leavingIn p (now (file .entry)) n e ⌝ }
 {
+    let begin = layout::header_bits(p);
     let mut s = 0;
-    let mut at = begin;
     while s < n {
-        if some_is_63(front(bits::get_long(file, at), n - s)) {
-            return true;
+        if some_is_63(bits::get_long(file, begin + 6 * s)) {
+            if layout::colour(p, file, s) == colour {
+                let verdict = edges_of(p, colour, file, n, e, s);
+                let Verdict::Faultless = verdict else {
+                    return verdict;
+                };
+            }
+            s += 1;
+        } else {
+            s += 8;
         }
-        s += 8;
-        at += 48;
     }
-    false
+    Verdict::Faultless
 }
 
-// Of eight fields of six bits the first k; all of them where k is above 8.
-fn front(eight: u64, k: usize) -> u64
-    ensures { λ r. ⌜ r ≡ eight / 2 ^ (6 * (8 - k)) ⌝ }
-{
-    if 8 <= k {
-        return eight;
-    }
-    eight >> (6 * (8 - k))
-}
-
-// Whether one of eight fields of six bits is 63. One is added to each field, and a top bit that is gone then was that of 63.
+// Whether one of eight fields of six bits is 63. One is added to each field: if a top bit is gone then, some field was 63.
 fn some_is_63(eight: u64) -> bool
     requires { ⌜ eight < 2 ^ 48 ⌝ }
     ensures { λ r. ⌜ (r ≡ false → NoneIs63 eight) ⌝ }
@@ -65,35 +60,60 @@ fn some_is_63(eight: u64) -> bool
     0 < sets::less(tops, eight + 4467856773185)
 }
 
-// The first edge from a state of the fault colour to a state of another. Edges of one source stand side by side: the colour of a source
-// that has another is looked at once.
-fn first_edge(p: Profile, colour: usize, file: &[u8], n: usize, e: usize) -> Verdict
-    requires { ⌜ Passed p (now file) n e × (p .fault ≡ Is colour) ⌝ }
-    ensures { λ r. ⌜ faultOf r ≡ leavingIn p (now (file .entry)) n e ⌝ }
+// The edges of a state of the fault colour: the first that leaves it.
+fn edges_of(p: Profile, colour: usize, file: &[u8], n: usize, e: usize, state: usize) -> Verdict
+    requires { ⌜ Passed p (now file) n e × (p .fault ≡ Is colour) × (colourAt p (now file) state ≡ colour) ⌝ }
+    ensures { λ r. ⌜ EdgesOf p (now (file .entry)) n e colour state r ⌝ }
 {
-    let mut at = layout::edges_begin(p, n);
-    let mut other = 256;
-    let mut i = 0;
+    let mut i = first_from(p, file, n, e, state);
     while i < e {
-        let edge = layout::edge::read(p, file, at);
+        let edge = edge_at(p, file, n, i);
         let source = edge.source;
-        if source.value != other {
-            if layout::colour(p, file, source.value) == colour {
-                let target = edge.target;
-                if layout::colour(p, file, target.value) != colour {
-                    return leaves(source.place);
-                }
-            } else {
-                other = source.value;
-            }
+        if source.value != state {
+            return Verdict::Faultless;
         }
-        at += layout::edge_bits(p);
+        let target = edge.target;
+        if layout::colour(p, file, target.value) != colour {
+            return leaving_at(source.place);
+        }
         i += 1;
     }
     Verdict::Faultless
 }
 
-fn leaves(place: usize) -> Verdict
+// The index of the first edge whose source is not before a state; e where there is none.
+fn first_from(p: Profile, file: &[u8], n: usize, e: usize, state: usize) -> usize
+    requires { ⌜ Passed p (now file) n e ⌝ }
+    ensures { λ r. ⌜ Halved p (now (file .entry)) n e state r r ⌝ }
+{
+    let mut low = 0;
+    let mut high = e;
+    while low < high {
+        let middle = (low + high) / 2;
+        let edge = edge_at(p, file, n, middle);
+        let source = edge.source;
+        if source.value < state {
+            low = middle + 1;
+        } else {
+            high = middle;
+        }
+    }
+    low
+}
+
+// Edge i of a file with n states.
+fn edge_at(p: Profile, file: &[u8], n: usize, i: usize) -> Placed
+    requires { ⌜ Usable p × (n ≤ 256) × (i < 32768) ⌝ }
+    ensures { λ r. ⌜ r ≡ placedAt p (now (file .entry)) (edgesBegin p n + edgeBits p * i) ⌝ }
+{
+    layout::edge::read(
+        p,
+        file,
+        layout::edges_begin(p, n) + layout::edge_bits(p) * i,
+    )
+}
+
+fn leaving_at(place: usize) -> Verdict
     ensures { λ r. ⌜ faultOf r ≡ some (record { number = 17; place = place }) ⌝ }
 {
     Verdict::Faulty(Refusal {

@@ -1,5 +1,5 @@
--- What pack, from_dot and to_large write is accepted by check, 17 included: of any answers and rooms that meet the calls' promises. Of what
--- reduce writes `demands` says it (`written-checks`).
+-- What pack, from_dot and to_large write is accepted, 17 included, and so has no edge out of colour 63: of any answers and rooms that meet
+-- the calls' promises. Of what reduce writes `demands` says it (`written-checks`).
 -- Assumes nothing.
 use Prim.Native.Nat.{ℕ}
 use mathlib.Core.Path.{_≡_, refl, sym, ap, _∙_}
@@ -29,33 +29,45 @@ use Rattle.converting.specs.Promise.{ConvertPromise}
 use Rattle.converting.proofs.Calls.{to-large}
 use Rattle.demands.specs.RoundTrip.{check-packed}
 use Rattle.interchange.specs.Interchange.{converts, converted-accepted, is-other}
+use Rattle.shutdown.specs.Shutdown.{NoneLeaves63, none-accepted}
 
--- Whatever check answers of a file, it accepts it.
-abbrev pub Checks : Profile → List ℕ → Type 0
-Checks P file = (k : Checked) → CheckPromise P file k → (r : Reading) × (k ≡ checked.Accepted r)
+-- The file is accepted.
+abbrev pub Accepted : Profile → List ℕ → Type 0
+Accepted P file = (numbers : List ℕ) × (checkOf P file ≡ accepted numbers)
 
-checks : (P : Profile) (file other vs : List ℕ) → file ≡ other → checkOf P other ≡ accepted vs → Checks P file
-checks P file other vs same e (checked.Accepted r) h = (r, refl)
-checks P file other vs same e (checked.Refused why) h = let z : refusalOutcome why ≡ accepted vs = h ∙ ap (checkOf P) same ∙ e in impossible cc
+-- so check answers with its numbers
+pub accepted-checks : (P : Profile) (file : List ℕ) → Accepted P file → (k : Checked) → CheckPromise P file k → (r : Reading) × (k ≡ checked.Accepted r)
+accepted-checks P file is (checked.Accepted r) h = (r, refl)
+accepted-checks P file is (checked.Refused why) h = let z : refusalOutcome why ≡ accepted (is .0) = h ∙ is .1 in impossible cc
 
-pub pack-checks : (P : Profile) → Usable P → (colours edges : List ℕ) (m start : ℕ) (room room′ : List ℕ) (n : ℕ) →
-    PackPromise P colours edges m start room (packed.Accepted n) room′ → Checks P (take n room′)
-pack-checks P ok colours edges m start room room′ n p =
+-- and a large file has no edge out of colour 63
+pub accepted-63 : (file : List ℕ) → Accepted large file → NoneLeaves63 file
+accepted-63 file is = none-accepted file (is .0) (is .1)
+
+pub pack-accepted : (P : Profile) → Usable P → (colours edges : List ℕ) (m start : ℕ) (room room′ : List ℕ) (n : ℕ) →
+    PackPromise P colours edges m start room (packed.Accepted n) room′ → Accepted P (take n room′)
+pack-accepted P ok colours edges m start room room′ n p =
     let F = fromLists colours edges m start in
     let h : packOf P colours edges m start (length room) ≡ accepted (n ∷ []) = sym (p .answer) in
     let passed = pack-passed P ok colours edges m start (length room) (n ∷ []) h in
     let long : length (written P F) ≡ n = length-written P ok F (passed .writable) ∙ cc (passed .are) in
-    checks P _ (written P F) _ (ap (take n) (cc (promise-laid p h)) ∙ laid-front (written P F) room n long) (check-packed P ok colours edges m start (length room) (n ∷ []) h)
+    let file : take n room′ ≡ written P F = ap (take n) (cc (promise-laid p h)) ∙ laid-front (written P F) room n long in
+    (_, ap (checkOf P) file ∙ check-packed P ok colours edges m start (length room) (n ∷ []) h)
 
-pub from-dot-checks : (P : Profile) → Usable P → (text room room′ : List ℕ) (n : ℕ) → FromDotPromise P text room (made.Accepted n) room′ → Checks P (take n room′)
-from-dot-checks P ok text room room′ n p =
+pub from-dot-accepted : (P : Profile) → Usable P → (text room room′ : List ℕ) (n : ℕ) → FromDotPromise P text room (made.Accepted n) room′ → Accepted P (take n room′)
+from-dot-accepted P ok text room room′ n p =
     let file = fileOf P (readOf text) in
     let q = redrawn-text P ok text (length room) (n ∷ []) (sym (p .answer)) in
     let long : length file ≡ n = cc (q .0) in
-    checks P _ file _ (ap (take n) (cc (promise-laid p (sym (p .answer)))) ∙ laid-front file room n long) (q .2)
+    let bytes : take n room′ ≡ file = ap (take n) (cc (promise-laid p (sym (p .answer)))) ∙ laid-front file room n long in
+    (_, ap (checkOf P) bytes ∙ q .2)
 
-pub to-large-checks : (file room room′ : List ℕ) (n : ℕ) → ConvertPromise pocket large file room (packed.Accepted n) room′ → Checks large (take n room′)
-to-large-checks file room room′ n p =
+pub to-large-accepted : (file room room′ : List ℕ) (n : ℕ) → ConvertPromise pocket large file room (packed.Accepted n) room′ → Accepted large (take n room′)
+to-large-accepted file room room′ n p =
     let got = converts pocket large file (length room) n (sym (p .answer)) in
-    checks large _ _ (got .checks .0) (is-other pocket large pocket-usable large-usable (to-large .above) file n room room′ p)
-    (converted-accepted pocket large pocket-usable large-usable (to-large .above) file (got .checks .0) (got .checks .1) (got .fits) ∙ got .checks .1)
+    let bytes = is-other pocket large pocket-usable large-usable (to-large .above) file n room room′ p in (
+      _,
+      ap (checkOf large) bytes
+          ∙ converted-accepted pocket large pocket-usable large-usable (to-large .above) file (got .checks .0) (got .checks .1) (got .fits)
+          ∙ got .checks .1,
+    )

@@ -40,14 +40,14 @@ use Rattle.reduction.specs.Promise.{ReducePromise}
 use Rattle.demands.specs.Demand3.{reducedFile, Shows, reduced-file-accepted, answered, answer-is}
 
 -- The colour of a state, as the file has it.
-abbrev pub colourOf : List ℕ → ℕ → ℕ
-colourOf file s = at (coloursIn large file) s
+abbrev pub colourIn : List ℕ → ℕ → ℕ
+colourIn file s = at (coloursIn large file) s
 
 -- No edge of the file, read at its bits, leads from a state of colour 63 to a state of another colour.
 abbrev pub NoneLeaves63 : List ℕ → Type 0
 NoneLeaves63 file =
     (i : ℕ) → i < countIn large file → let e = edgeAt large file (edgeBegins large file i) in
-    colourOf file (e .source) ≡ 63 → colourOf file (e .target) ≡ 63
+    colourIn file (e .source) ≡ 63 → colourIn file (e .target) ≡ 63
 
 -- Of some colours that are shown, 63 is followed by nothing else to the end.
 abbrev pub StaysAt63 : List ℕ → ℕ → Type 0
@@ -64,8 +64,8 @@ not-left hue e h is = cases-of (eqb (hue (e .target)) 63) (λ q. eqb-true (hue (
 pub none-accepted : (file vs : List ℕ) → checkOf large file ≡ accepted vs → NoneLeaves63 file
 unfolding faultStays colour filterIn edgesIn edgesFrom placedIn
 none-accepted file vs accepts i l =
-    let all : each (stays (some 63) (colourOf file)) (edgesFrom large file (edgesBegin large (statesIn large file)) (countIn large file)) ≡ true = check-sound large file vs accepts .0 .stays in
-    not-left (colourOf file) _ (each-at large (stays (some 63) (colourOf file)) file (edgesBegin large (statesIn large file)) (countIn large file) all i l)
+    let all : each (stays (some 63) (colourIn file)) (edgesFrom large file (edgesBegin large (statesIn large file)) (countIn large file)) ≡ true = check-sound large file vs accepts .0 .stays in
+    not-left (colourIn file) _ (each-at large (stays (some 63) (colourIn file)) file (edgesBegin large (statesIn large file)) (countIn large file) all i l)
 
 -- nor has the reduced file of an accepted one
 pub none-reduced : (file vs : List ℕ) → Bytes file → checkOf large file ≡ accepted vs → NoneLeaves63 (reducedFile large file)
@@ -112,13 +112,12 @@ trace-63 file ys room room′ traced.All p i j le l = rode-63 file ys room room�
 trace-63 file ys room room′ (traced.Stopped k) p i j le l = rode-63 file ys room room′ _ (traced.Stopped k) (some k) p refl refl i j le (omega arith)
 trace-63 file ys room room′ (traced.Refused why) p i j le l = absurd (omega arith)
 
--- if reduce answers with a file, the bytes that it has written have no edge that leaves 63, and whatever trace of them answers, 63 is
--- followed by nothing else
+-- if reduce answers with a file, the bytes that it has written have no edge that leaves 63, and whatever is observed, once they have
+-- shown 63 they show it to the end
 pub reduce-63 : (file : List ℕ) (found left : Rooms) (c : Counts) → Bytes file → ReducePromise large file found (answers.Accepted c) left →
-    NoneLeaves63 (take (c .length) (left .answer))
-    × ((ys room room′ : List ℕ) (r : Traced) → TracePromise large (take (c .length) (left .answer)) ys room r room′ → StaysAt63 room′ (colourCount r (length ys)))
+    let bytes = take (c .length) (left .answer) in
+    NoneLeaves63 bytes × ((ys : List ℕ) → StaysAt63 (Shows large bytes ys) (length (Shows large bytes ys)))
 reduce-63 file found left c bytes p =
-    let f = answered large file found left c p in (
-      rw (answer-is large large-usable file found left c bytes f) (none-reduced file (f .checks .0) bytes (f .checks .1)),
-      trace-63 (take (c .length) (left .answer)),
-    )
+    let f = answered large file found left c p in
+    rw (answer-is large large-usable file found left c bytes f)
+    (none-reduced file (f .checks .0) bytes (f .checks .1), reduced-shows-63 file (f .checks .0) bytes (f .checks .1))

@@ -19,12 +19,12 @@ use Rattle.sets.proofs.FourLaws.{contains-none, contains-with}
 use Rattle.layout.specs.declared.edge.Edge.{Edge}
 use Rattle.layout.specs.Code.{edgeOf, Small}
 use Rattle.edges.specs.Faults.{listedAt, firstLeaving}
-use Rattle.surveying.specs.Surveys.{hasFault, Marked, MarkedOn, leavingIs, leavingBy}
+use Rattle.surveying.specs.Surveys.{hasFaultColour, Marked, MarkedOn, leavingIs, leavingBy}
 
 -- ---- one state more
 
-nothing : (fault : Option ℕ) (k : ℕ) → hasFault fault [] k ≡ false
-unfolding hasFault
+nothing : (fault : Option ℕ) (k : ℕ) → hasFaultColour fault [] k ≡ false
+unfolding hasFaultColour
 nothing none k = refl
 nothing (some f) k = rw (le-ltb k 0 (omega arith))
 
@@ -34,8 +34,8 @@ marked-none fault = record {
   says = λ k l. contains-none 4 k ∙ sym (nothing fault k);
 }
 
-has-more : (f : ℕ) (cs : List ℕ) (c k : ℕ) → hasFault (some f) (cs ++ (c ∷ [])) k ≡ (eqb (length cs) k && eqb c f) || hasFault (some f) cs k
-unfolding hasFault
+has-more : (f : ℕ) (cs : List ℕ) (c k : ℕ) → hasFaultColour (some f) (cs ++ (c ∷ [])) k ≡ (eqb (length cs) k && eqb c f) || hasFaultColour (some f) cs k
+unfolding hasFaultColour
 has-more f cs c k =
     let long = length-append cs (c ∷ []) in
     cases-of (ltb k (length cs))
@@ -51,7 +51,7 @@ has-more f cs c k =
 module _ (k c : ℕ) (words : List ℕ) where
   -- without a fault colour no state has it
   pub mark-none : MarkedOn none k c words words
-  unfolding hasFault
+  unfolding hasFaultColour
   mark-none cs n m = record { long = m .long; says = m .says }
 
   pub mark-other : (f : ℕ) → (c ≡ f → ⊥) → MarkedOn (some f) k c words words
@@ -85,7 +85,7 @@ leaving-some (suc i) d = simp unary-clauses
 pub leaving-by : (fault : Option ℕ) (colours words : List ℕ) (i : ℕ) (e : Edge) → Marked fault colours words →
     Small e → e .source < length colours → e .target < length colours →
     firstLeaving fault colours (listedAt i (edgeOf e) ∷ []) ≡ leavingBy words i e
-unfolding firstLeaving leaves hasFault
+unfolding firstLeaving leaves hasFaultColour
 leaving-by none colours words i e m small s t = rw (m .says (e .source) (small .source))
 leaving-by (some f) colours words i e m small s t =
     rw (

@@ -94,14 +94,14 @@ lastOf before [] = before
 lastOf before (e ∷ es) = lastOf (some e) es
 
 -- State k has the fault colour.
-unfoldable pub hasFault : Option ℕ → List ℕ → ℕ → Bool
-hasFault none colours k = false
-hasFault (some fault) colours k = ltb k (length colours) && eqb (at colours k) fault
+unfoldable pub hasFaultColour : Option ℕ → List ℕ → ℕ → Bool
+hasFaultColour none colours k = false
+hasFaultColour (some fault) colours k = ltb k (length colours) && eqb (at colours k) fault
 
 -- Four words in which the states of the fault colour are marked, as far as a file can have them.
 pub record Marked (fault : Option ℕ) (colours words : List ℕ) : Type 0 where
   pub long : length words ≡ 4
-  pub says : (k : ℕ) → k < 256 → contains words k ≡ hasFault fault colours k
+  pub says : (k : ℕ) → k < 256 → contains words k ≡ hasFaultColour fault colours k
 
 -- The state behind the first k was marked too, if it has the fault colour.
 abbrev pub MarkedOn : Option ℕ → ℕ → ℕ → List ℕ → List ℕ → Type 0
