@@ -183,11 +183,31 @@ static uint64_t test_list(const uint8_t *edges, const struct header *h)
     return all_passed(&passing) ? 0 : first_fault_listed(edges, h);
 }
 
+/* As seek_source. */
+static size_t seek_source_listed(const uint8_t *edges, const struct header *h, size_t i, size_t source)
+{
+    size_t end = h->e;
+    while (i < end) {
+        size_t middle = i + (end - i) / 2;
+        if (edges[3 * middle] < source)
+            i = middle + 1;
+        else
+            end = middle;
+    }
+    return i;
+}
+
+/* As first_leaving. */
 static uint64_t first_leaving_listed(const uint8_t *colours, const uint8_t *edges, const struct header *h)
 {
-    for (size_t i = 0; i < h->e; i++)
-        if (leaves_fault(colours, edges[3 * i], edges[3 * i + 2]))
-            return refused(FAULT, i);
+    size_t i = 0;
+    for (size_t s = 0; s < h->n; s++) {
+        if (colours[s] != FAULT_COLOUR)
+            continue;
+        for (i = seek_source_listed(edges, h, i, s); i < h->e && edges[3 * i] == s; i++)
+            if (colours[edges[3 * i + 2]] != FAULT_COLOUR)
+                return refused(FAULT, i);
+    }
     return 0;
 }
 

@@ -345,11 +345,6 @@ static inline int has_fault(const uint8_t *file, size_t length, size_t n)
     return (found & begins) != 0;
 }
 
-static inline int leaves_fault(const uint8_t *colours, size_t source, size_t target)
-{
-    return colours[source] == FAULT_COLOUR && colours[target] != FAULT_COLOUR;
-}
-
 /* The first edge, from edge i on, whose source is not below this one. The edges are known to ascend. */
 static size_t seek_source(const uint8_t *file, size_t length, const struct header *h, size_t i, size_t source)
 {
