@@ -1,6 +1,7 @@
 // Checking a filter file.
 use edges::Cursor;
 use edges::Verdict;
+use layout::FaultColour;
 use layout::Profile;
 use layout::Reading;
 use refusals::Kind;
@@ -53,7 +54,11 @@ fn check_as(p: Profile, answer: Checked, file: &[u8]) -> Checked
             Verdict::Faulty(why) => return Checked::Refused(why),
         }
     }
-    told(r, leaving::first(p, file, n, e))
+    let fault = p.fault;
+    let FaultColour::Is(colour) = fault else {
+        return Checked::Accepted(r);
+    };
+    told(r, leaving::first(p, colour, file, n, e))
 }
 
 // What is answered when every edge has passed 7, 8 and 9, by what was found of 17.

@@ -1,7 +1,6 @@
 // The first edge of a file that leaves the fault colour, looked for when every edge has passed 7, 8 and 9. Edges ascend by their
 // sources: those of a state stand side by side and are found by halving, so that only edges out of a state of that colour are read again.
 use edges::Verdict;
-use layout::FaultColour;
 use layout::Profile;
 use layout::edge::Placed;
 use refusals::Kind;
@@ -17,19 +16,8 @@ ghost use Rattle.layout.specs.Code.{Usable};
 ghost use Rattle.edges.specs.Walk.{faultOf};
 ghost use Rattle.leaving.specs.Leaving.{Passed, leavingIn, EdgesOf, Halved, NoneIs63};
 
-pub fn first(p: Profile, file: &[u8], n: usize, e: usize) -> Verdict
-    requires { ⌜ Passed p (now file) n e ⌝ }
-    ensures { λ r. ⌜ faultOf r ≡ leavingIn p (now (file .entry)) n e ⌝ }
-{
-    let fault = p.fault;
-    let FaultColour::Is(colour) = fault else {
-        return Verdict::Faultless;
-    };
-    first_by_states(p, colour, file, n, e)
-}
-
 // State by state; eight of them in one go where none of these has the colour.
-fn first_by_states(p: Profile, colour: usize, file: &[u8], n: usize, e: usize) -> Verdict
+pub fn first(p: Profile, colour: usize, file: &[u8], n: usize, e: usize) -> Verdict
     requires { ⌜ Passed p (now file) n e × (p .fault ≡ Is colour) ⌝ }
     ensures { λ r. ⌜ faultOf r ≡ leavingIn p (now (file .entry)) n e ⌝ }
 {

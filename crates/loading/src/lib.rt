@@ -2,6 +2,7 @@
 use checking::Checked;
 use edges::Cursor;
 use edges::Verdict;
+use layout::FaultColour;
 use layout::Profile;
 ghost use mathlib.Core.Path.{_≡_};
 ghost use Rattle.layout.specs.Layout.{large, pocket};
@@ -75,7 +76,11 @@ fn load_as(
             Verdict::Faulty(why) => return Checked::Refused(why),
         }
     }
-    checking::told(r, leaving::first(p, file, n, e))
+    let fault = p.fault;
+    let FaultColour::Is(colour) = fault else {
+        return Checked::Accepted(r);
+    };
+    checking::told(r, leaving::first(p, colour, file, n, e))
 }
 
 // The colour of each of the n states of a file, one byte a state.

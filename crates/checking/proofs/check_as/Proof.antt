@@ -10,6 +10,9 @@ use Rattle.layout.proofs.Bounds.{states-high, count-high, begin-high}
 use Rattle.edges.specs.Walk.{faultOf, Walked}
 use Rattle.edges.proofs.Walks.{walk-begun, walk-near, walk-next, walk-faulty, walk-done}
 use Rattle.files.specs.Tests.{HeadIs, head-is, head-refused, check-faultless, check-faulty}
+use Rattle.leaving.specs.Leaving.{Passed}
+use Rattle.leaving.proofs.Laws.{found-never}
+use Rattle.checking.proofs.Calls.{all-passed}
 use Rattle.checking.specs.Promise.{checkedOutcome}
 use Rattle.checking.proofs.check_as.Statement.{statement}
 use Rattle.checking.proofs.check_as.Tie as tie
@@ -92,25 +95,29 @@ returns-2 c =
     sym (check-faulty _ _ _ (is-headed (loop .before .before .before)) _ refl (c .before .verdict .given .0 .0)
     (walk-faulty _ _ _ _ _ _ _ (loop .loop .inv) _ (read .read .ensures .0) (tested .test .result) (tested .test .ensures) (read .before .if1 .taken) _ (ap faultOf (c .before .verdict .given .1))))
 
-first-requires : tie.Need-first-requires Inv-loop μ-loop
-first-requires c κs =
-    let loop = c .before .before in
-    let told = loop .before .before .before in
-    let start = told .before .before .before .before in
-    record {
-      usable = start .pre .0;
-      states = is-headed told .states-are;
-      few = rw (is-headed told .count-is) (count-high _ (start .pre .0) (now (start .args .file)));
-      labels = _;
-      clear = walk-done _ _ _ _ _ _ _ (loop .loop .inv) (c .if1 .left);
-    }
+-- every edge has passed
+passed : (c : tie.Else1 Inv-loop μ-loop) → let told = c .before .before .before .before .before in let start = told .before .before .before .before in
+    let r = told .before .answer .given .0 .0 in Passed (start .args .p) (now (start .args .file)) (r .states) (r .edges)
+passed c =
+    let told = c .before .before .before .before .before in
+    all-passed _ (told .before .before .before .before .pre .0) _ _ (is-headed told) (walk-done _ _ _ _ _ _ _ (c .before .before .loop .inv) (c .if1 .left))
 
 returns-3 : tie.Need-returns-3 Inv-loop μ-loop
 returns-3 c =
+    let all = c .before .before in
+    let told = all .before .before .before .before .before in
+    let done = walk-done _ _ _ _ _ _ _ (all .before .before .loop .inv) (all .if1 .left) in
+    sym (check-faultless _ _ _ (is-headed told) _ refl done _ (found-never _ _ _ _ (passed all) (c .enum-told3 .given .1)))
+
+first-requires : tie.Need-first-requires Inv-loop μ-loop
+first-requires c κs = (passed (c .before .before .before), c .before .fault .given .1)
+
+returns-4 : tie.Need-returns-4 Inv-loop μ-loop
+returns-4 c =
     let found = c .before in
-    let loop = found .before .before .before in
-    c .told .ensures
-    ∙ sym (check-faultless _ _ _ (is-headed (loop .before .before .before)) _ refl (walk-done _ _ _ _ _ _ _ (loop .loop .inv) (found .before .if1 .left)) _ (sym (found .first .ensures)))
+    let all = found .before .before .before .before in
+    let done = walk-done _ _ _ _ _ _ _ (all .before .before .loop .inv) (all .if1 .left) in
+    c .told .ensures ∙ sym (check-faultless _ _ _ (is-headed (all .before .before .before .before .before)) _ refl done _ (sym (found .first .ensures)))
 
 pub check-as-spec : {M : Type 1} → statement M
 check-as-spec =
@@ -132,6 +139,9 @@ check-as-spec =
     loop-again
     (λ c. search needs)
     returns-2
+    (λ c. search needs)
+    (λ c. search needs)
+    returns-3
     first-requires
     (λ c κs. search needs)
-    returns-3)
+    returns-4)

@@ -1,6 +1,7 @@
 -- `loading::load_as` meets its contract: a refusal before the edges is the answer, and otherwise the first fault of the edges
 -- decides, or else 17. The invariant: no edge before the cursor has a fault, and the table has these edges. Assumes nothing.
 use mathlib.Core.Path.{refl, ap, sym, _∙_}
+use mathlib.Core.Option.{none}
 use Prim.Native.Nat.{_-_, _^_, _≤_, _<_}
 use native.Mathlib.Omega.{arith}
 use borrow.Author.Needs.{needs}
@@ -10,7 +11,10 @@ use Rattle.layout.proofs.Bounds.{states-high, count-high, begin-high}
 use Rattle.edges.specs.Walk.{faultOf}
 use Rattle.edges.proofs.Walks.{walk-near, walk-faulty, walk-done}
 use Rattle.files.specs.Tests.{HeadIs, head-is, head-refused, check-faulty}
+use Rattle.leaving.specs.Leaving.{Passed}
+use Rattle.leaving.proofs.Laws.{found-never}
 use Rattle.checking.specs.Promise.{checkedOutcome}
+use Rattle.checking.proofs.Calls.{all-passed}
 use Rattle.table.specs.Table.{table}
 use Rattle.loading.proofs.Laws.{Filling, filling-begun, filling-room, filling-next, filling-done, loaded-refused, loaded-told}
 use Rattle.loading.proofs.load_as.Statement.{statement}
@@ -117,26 +121,32 @@ returns-2 c =
     (walk-faulty _ _ _ _ _ _ _ (loop .loop .inv .walked) _ (read .read .ensures .0) (tested .test .result) (tested .test .ensures) (read .before .if1 .taken) _ (ap faultOf (c .before .verdict .given .1))))
     (loop .loop .inv .rows)
 
-first-requires : tie.Need-first-requires Inv-loop μ-loop
-first-requires c κs =
-    let loop = c .before .before in
-    let begun = told loop in
-    let start = started begun in
-    record {
-      usable = start .pre .1 .usable;
-      states = is-headed begun .states-are;
-      few = rw (is-headed begun .count-is) (count-high _ (start .pre .1 .usable) (now (start .args .file)));
-      labels = _;
-      clear = walk-done _ _ _ _ _ _ _ (loop .loop .inv .walked) (c .if1 .left);
-    }
+-- every edge has passed
+passed : (c : tie.Else1 Inv-loop μ-loop) → let begun = told (c .before .before) in let start = started begun in let r = begun .before .answer .given .0 .0 in
+    Passed (start .args .p) (now (start .args .file)) (r .states) (r .edges)
+passed c =
+    let begun = told (c .before .before) in
+    all-passed _ (started begun .pre .1 .usable) _ _ (is-headed begun) (walk-done _ _ _ _ _ _ _ (c .before .before .loop .inv .walked) (c .if1 .left))
 
 returns-3 : tie.Need-returns-3 Inv-loop μ-loop
 returns-3 c =
+    let all = c .before .before in
+    let loop = all .before .before in
+    let clear = walk-done _ _ _ _ _ _ _ (loop .loop .inv .walked) (all .if1 .left) in
+    loaded-told _ _ _ _ none _ _ (is-headed (told loop)) refl (sym (found-never _ _ _ _ (passed all) (c .enum-told3 .given .1))) clear
+    (filling-done _ _ _ _ _ _ _ _ _ (loop .loop .inv) (all .if1 .left) clear) (loop .loop .inv .rows)
+
+first-requires : tie.Need-first-requires Inv-loop μ-loop
+first-requires c κs = (passed (c .before .before .before), c .before .fault .given .1)
+
+returns-4 : tie.Need-returns-4 Inv-loop μ-loop
+returns-4 c =
     let found = c .before in
-    let all = found .before .if1 .left in
-    let loop = found .before .before .before in
-    let clear = walk-done _ _ _ _ _ _ _ (loop .loop .inv .walked) all in
-    loaded-told _ _ _ _ _ _ _ (is-headed (told loop)) (c .told .ensures) (found .first .ensures) clear (filling-done _ _ _ _ _ _ _ _ _ (loop .loop .inv) all clear) (loop .loop .inv .rows)
+    let all = found .before .before .before .before in
+    let loop = all .before .before in
+    let clear = walk-done _ _ _ _ _ _ _ (loop .loop .inv .walked) (all .if1 .left) in
+    loaded-told _ _ _ _ _ _ _ (is-headed (told loop)) (c .told .ensures) (found .first .ensures) clear
+    (filling-done _ _ _ _ _ _ _ _ _ (loop .loop .inv) (all .if1 .left) clear) (loop .loop .inv .rows)
 
 pub load-as-spec : {M : Type 1} → statement M
 load-as-spec =
@@ -163,8 +173,13 @@ load-as-spec =
     (λ c. search needs)
     (λ c. search needs)
     returns-2
+    (λ c. search needs)
+    (λ c. search needs)
+    (λ c. search needs)
+    (λ c. search needs)
+    returns-3
     first-requires
     (λ c κs. search needs)
     (λ c. search needs)
     (λ c. search needs)
-    returns-3)
+    returns-4)
