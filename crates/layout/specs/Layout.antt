@@ -19,6 +19,7 @@ large = record { states = 8; labels = 6; start = 8; edges = 15; colour = 6; faul
 abbrev pub pocket : Profile
 pocket = record { states = 4; labels = 3; start = 4; edges = 8; colour = 4; fault = fault.None }
 
+-- The colour that the code's value names, if it names one.
 abbrev pub colourOf : FaultColour → Option ℕ
 colourOf fault.None = none
 colourOf (fault.Is colour) = some colour

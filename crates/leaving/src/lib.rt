@@ -16,7 +16,7 @@ ghost use Rattle.layout.specs.Code.{Usable};
 ghost use Rattle.edges.specs.Walk.{faultOf};
 ghost use Rattle.leaving.specs.Leaving.{Passed, leavingIn, EdgesOf, Halved, NoneIs63};
 
-// State by state; eight of them in one go where none of these has the colour.
+// Looks state by state, and at eight of them in one go where none of these has the colour.
 pub fn first(p: Profile, colour: usize, file: &[u8], n: usize, e: usize) -> Verdict
     requires { ⌜ Passed p (now file) n e × (p .fault ≡ Is colour) ⌝ }
     ensures { λ r. ⌜ faultOf r ≡ leavingIn p (now (file .entry)) n e ⌝ }
