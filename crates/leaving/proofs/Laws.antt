@@ -26,11 +26,11 @@ use Rattle.layout.specs.declared.edge.Placed.{Placed}
 use Rattle.layout.specs.Layout.{colourOf, faultColour, headerBits, edgeBits, edgesBegin}
 use Rattle.layout.specs.Contents.{statesIn, coloursIn, colourAt, placedAt, placedFrom, edgeAt, edgesFrom}
 use Rattle.layout.specs.Code.{Usable}
-use Rattle.layout.proofs.Bounds.{states-high, begin-high, place-high}
+use Rattle.layout.proofs.Bounds.{states-high}
 use Rattle.layout.proofs.EdgeLists.{each-at}
 use Rattle.edges.specs.Faults.{firstLeaving}
 use Rattle.edges.proofs.Tests.{InOrder, fault-free}
-use Rattle.leaving.specs.Leaving.{NoneIs63, Passed, leavingIn, edgeOf, source, NoneBefore, Halved}
+use Rattle.leaving.specs.Leaving.{NoneIs63, Passed, leavingIn, nthEdge, source, NoneBefore, Halved}
 
 -- ---- eight fields of six bits
 
@@ -160,7 +160,7 @@ never-leaves colours (d ∷ es) = never-leaves colours es
 -- Edges before edge i have a source before state s or do not leave colour c, and those from it on have no source before s.
 pub record Going (P : Profile) (file : List ℕ) (n e c s i : ℕ) : Type 0 where
   pub within : i ≤ e
-  pub before : (k : ℕ) → k < i → (source P file n k < s) ⊎ (leaves (some c) (at (coloursIn P file)) (edgeOf P file n k) ≡ false)
+  pub before : (k : ℕ) → k < i → (source P file n k < s) ⊎ (leaves (some c) (at (coloursIn P file)) (nthEdge P file n k) ≡ false)
   pub behind : (k : ℕ) → i ≤ k → k < e → s ≤ source P file n k
 
 -- ---- the edges of a file that have passed
@@ -176,14 +176,11 @@ module _ (P : Profile) (file : List ℕ) (n e : ℕ) (passed : Passed P file n e
   pub few-states : n ≤ 256
   few-states = rw (passed .states) (states-high P (passed .usable) file)
 
-  pub near : (i : ℕ) → i ≤ e → edgesBegin P n + edgeBits P * i < 2 ^ 62
-  near i l = omega (arith, place-high P (passed .usable) (edgesBegin P n) i (begin-high P (passed .usable) n few-states) (omega (arith, passed .few)))
-
   -- an edge's ends are states
-  pub ends : (k : ℕ) → k < e → (edgeOf P file n k .source < n) × (edgeOf P file n k .target < n)
+  pub ends : (k : ℕ) → k < e → (nthEdge P file n k .source < n) × (nthEdge P file n k .target < n)
   unfolding inside
   ends k l =
-      let d = edgeOf P file n k in
+      let d = nthEdge P file n k in
       let s = ltb (d .source) n in
       let y = ltb (d .label) (passed .labels) in
       let t = ltb (d .target) n in
@@ -232,7 +229,7 @@ module _ (P : Profile) (file : List ℕ) (n e : ℕ) (passed : Passed P file n e
     is-fault = ap colourOf q
 
     abbrev leaving : ℕ → Bool
-    leaving k = leaves (some c) (at (coloursIn P file)) (edgeOf P file n k)
+    leaving k = leaves (some c) (at (coloursIn P file)) (nthEdge P file n k)
 
     source-other : (k : ℕ) → k < e → (colourAt P file (from k) ≡ c → ⊥) → leaving k ≡ false
     unfolding leaves
@@ -275,12 +272,12 @@ module _ (P : Profile) (file : List ℕ) (n e : ℕ) (passed : Passed P file n e
             let least = w .behind i (omega arith) more in
             absurd (differs (omega arith)))
 
-        pub going-on : i < e → from i ≡ s → colourAt P file s ≡ c → colourAt P file (edgeOf P file n i .target) ≡ c → Going P file n e c s (i + 1)
+        pub going-on : i < e → from i ≡ s → colourAt P file s ≡ c → colourAt P file (nthEdge P file n i .target) ≡ c → Going P file n e c s (i + 1)
         unfolding leaves
         going-on more same is to =
             let stays : leaving i ≡ false = rw (
               eq-eqb (at (coloursIn P file) (from i)) c (hue-at (from i) (ends i more .0) ∙ ap (colourAt P file) same ∙ is),
-              eq-eqb (at (coloursIn P file) (edgeOf P file n i .target)) c (hue-at _ (ends i more .1) ∙ to),
+              eq-eqb (at (coloursIn P file) (nthEdge P file n i .target)) c (hue-at _ (ends i more .1) ∙ to),
             ) in
             record {
               within = omega arith;
@@ -288,12 +285,12 @@ module _ (P : Profile) (file : List ℕ) (n e : ℕ) (passed : Passed P file n e
               behind = λ k l m. w .behind k (omega arith) m;
             }
 
-        pub going-leaves : i < e → from i ≡ s → colourAt P file s ≡ c → (colourAt P file (edgeOf P file n i .target) ≡ c → ⊥) → NoneBefore P file n e c s →
+        pub going-leaves : i < e → from i ≡ s → colourAt P file s ≡ c → (colourAt P file (nthEdge P file n i .target) ≡ c → ⊥) → NoneBefore P file n e c s →
             leavingIn P file n e ≡ some (record { number = 17; place = edgesBegin P n + edgeBits P * i })
         unfolding leaves
         going-leaves more same is to clear =
             let goes-on : leaving i ≡ true = rw (
               eq-eqb (at (coloursIn P file) (from i)) c (hue-at (from i) (ends i more .0) ∙ ap (colourAt P file) same ∙ is),
-              ne-eqb (at (coloursIn P file) (edgeOf P file n i .target)) c (λ f. to (sym (hue-at _ (ends i more .1)) ∙ f)),
+              ne-eqb (at (coloursIn P file) (nthEdge P file n i .target)) c (λ f. to (sym (hue-at _ (ends i more .1)) ∙ f)),
             ) in
             rw is-fault (first-at P file c (edgesBegin P n) e i more (passed-by clear) goes-on)

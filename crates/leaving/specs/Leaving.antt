@@ -33,15 +33,15 @@ abbrev pub leavingIn : Profile → List ℕ → ℕ → ℕ → Option Fault
 leavingIn P file n e = firstLeaving (faultColour P) (coloursIn P file) (placedFrom P file (edgesBegin P n) e)
 
 -- Edge k, and its source.
-abbrev pub edgeOf : Profile → List ℕ → ℕ → ℕ → Edge
-edgeOf P file n k = edgeAt P file (edgesBegin P n + edgeBits P * k)
+abbrev pub nthEdge : Profile → List ℕ → ℕ → ℕ → Edge
+nthEdge P file n k = edgeAt P file (edgesBegin P n + edgeBits P * k)
 
 abbrev pub source : Profile → List ℕ → ℕ → ℕ → ℕ
-source P file n k = edgeOf P file n k .source
+source P file n k = nthEdge P file n k .source
 
 -- No edge out of a state before s leaves colour c.
 abbrev pub NoneBefore : Profile → List ℕ → ℕ → ℕ → ℕ → ℕ → Type 0
-NoneBefore P file n e c s = (k : ℕ) → k < e → source P file n k < s → leaves (some c) (at (coloursIn P file)) (edgeOf P file n k) ≡ false
+NoneBefore P file n e c s = (k : ℕ) → k < e → source P file n k < s → leaves (some c) (at (coloursIn P file)) (nthEdge P file n k) ≡ false
 
 -- What is found of the edges of state s, if no edge out of a state before it leaves: none of them leaves either, or the first of all
 -- edges that does.

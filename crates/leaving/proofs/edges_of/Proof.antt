@@ -11,7 +11,7 @@ use Rattle.meaning.specs.Filter.{Edge}
 use Rattle.layout.specs.declared.edge.Placed.{Placed}
 use Rattle.layout.specs.Layout.{edgeBits, edgesBegin}
 use Rattle.layout.specs.Contents.{values, placedAt, edgeAt}
-use Rattle.leaving.specs.Leaving.{edgeOf}
+use Rattle.leaving.specs.Leaving.{nthEdge}
 use Rattle.leaving.proofs.Laws.{few-states, ends, Going, going-begun, going-end, going-other, going-on, going-leaves}
 use Rattle.leaving.proofs.edges_of.Statement.{statement}
 use Rattle.leaving.proofs.edges_of.Tie as tie
@@ -38,16 +38,16 @@ edge-at-requires c κs =
 
 -- the edge that was read
 read : (c : tie.After-struct-known Inv-loop μ-loop) → let start = started (looped c) in
-    values (c .before .before .edge-at .result) ≡ edgeOf (start .args .p) (now (start .args .file)) (start .args .n) (looped c .loop .i)
+    values (c .before .before .edge-at .result) ≡ nthEdge (start .args .p) (now (start .args .file)) (start .args .n) (looped c .loop .i)
 unfolding edgeAt
 read c = ap values (c .before .before .edge-at .ensures)
 
 source-is : (c : tie.After-struct-known Inv-loop μ-loop) → let start = started (looped c) in
-    c .before .before .edge-at .result .source .value ≡ edgeOf (start .args .p) (now (start .args .file)) (start .args .n) (looped c .loop .i) .source
+    c .before .before .edge-at .result .source .value ≡ nthEdge (start .args .p) (now (start .args .file)) (start .args .n) (looped c .loop .i) .source
 source-is c = ap (λ (d : Edge). d .source) (read c)
 
 target-is : (c : tie.After-struct-known Inv-loop μ-loop) → let start = started (looped c) in
-    c .before .before .edge-at .result .target .value ≡ edgeOf (start .args .p) (now (start .args .file)) (start .args .n) (looped c .loop .i) .target
+    c .before .before .edge-at .result .target .value ≡ nthEdge (start .args .p) (now (start .args .file)) (start .args .n) (looped c .loop .i) .target
 target-is c = ap (λ (d : Edge). d .target) (read c)
 
 returns : tie.Need-returns Inv-loop μ-loop
