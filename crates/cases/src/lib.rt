@@ -3,12 +3,13 @@
 // In: 8 bytes, how many cases; then each case: 1 byte, the call; two numbers of 8 bytes; three lengths of 4 bytes; and as many
 // bytes for each of the strings a, b and c. Out, each case: 1 byte, the refusal's number or 0; 8 bytes, its place; four counts
 // of 8 bytes; then the strings b and c.
+#![tactic(auto)]
 ghost use Rattle.std.specs.Prelude.{◌≡◌, ◌≤◌, ◌<◌, ◌^◌, length};
 
 use libc::{STDIN_FILENO, STDOUT_FILENO};
 
 // What stands before the strings of a case: the call, its two numbers, and the strings' lengths.
-#[derive(Drop)]
+#[derive(Clone, Copy)]
 pub struct Head {
     pub call: u64,
     pub first: u64,
@@ -18,7 +19,7 @@ pub struct Head {
     pub c: usize,
 }
 
-#[derive(Drop)]
+#[derive(Clone, Copy)]
 pub enum Next {
     Case(Head),
     CutOff,

@@ -1,4 +1,5 @@
 // Checking a filter file.
+#![tactic(auto)]
 ghost use Rattle.std.specs.Prelude.{◌≡◌};
 ghost use Rattle.refusals.specs.Refusals.{onward, refusal_outcome};
 ghost use Rattle.layout.specs.Layout.{large, pocket};
@@ -12,7 +13,7 @@ use edges::{Cursor, Verdict};
 use layout::{FaultColour, Profile, Reading};
 use refusals::{Kind, Refusal};
 
-#[derive(Drop)]
+#[derive(Clone, Copy)]
 pub enum Checked {
     Accepted(Reading),
     Refused(Refusal),

@@ -1,4 +1,5 @@
 // Drawings in Graphviz's language: a text of the narrow profile becomes a filter file, a filter file becomes a text.
+#![tactic(auto)]
 ghost use Rattle.std.specs.Prelude.{◌≡◌, [], ◌∷◌, length};
 ghost use Rattle.refusals.specs.Refusals.{accepted, first_of, room_test};
 ghost use Rattle.layout.specs.Layout.{large};
@@ -17,7 +18,7 @@ use refusals::{Kind, Refusal};
 use surveying::{Survey, Surveyed};
 
 // The length of what was written; or why nothing was.
-#[derive(Drop)]
+#[derive(Clone, Copy)]
 pub enum Made {
     Accepted(usize),
     Refused(Refusal),

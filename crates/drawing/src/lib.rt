@@ -1,5 +1,6 @@
 // What a statement of a drawing is read as, and two parts of it that are read from a text where they stand: its label, and an edge's
 // target. Fixed words are compared, numbers are read. A place is counted from the beginning of the text.
+#![tactic(auto)]
 ghost use Rattle.std.specs.Prelude.{◌≡◌, ◌≤◌, length};
 ghost use Rattle.meaning.specs.Pick.{pick};
 ghost use Rattle.drawing.specs.Profile.{larger};
@@ -8,14 +9,14 @@ ghost use Rattle.drawing.specs.Reader.{labelled_at, target_at};
 use layout::edge::Edge;
 
 // A number behind the word before it, and the place behind what it stands in; or where the text leaves the profile.
-#[derive(Drop)]
+#[derive(Clone, Copy)]
 pub enum Labelled {
     Value(usize, usize),
     Outside(usize),
 }
 
 // A state's colour, an edge, or the closing brace, with the place behind it; or where the text leaves the profile.
-#[derive(Drop)]
+#[derive(Clone, Copy)]
 pub enum Statement {
     State(usize, usize),
     Edge(Edge, usize),
@@ -24,7 +25,7 @@ pub enum Statement {
 }
 
 // An edge and the place behind its statement.
-#[derive(Drop)]
+#[derive(Clone, Copy)]
 pub struct Line {
     pub edge: Edge,
     pub end: usize,

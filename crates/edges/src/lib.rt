@@ -1,4 +1,5 @@
 // Edges tested one behind another: 7, 8 and 9, the first of several that get 17, and the cursor that walks over a file's edges.
+#![tactic(auto)]
 ghost use Rattle.std.specs.Prelude.{◌≡◌};
 ghost use Rattle.std.proofs.Math.Option.{some};
 ghost use Rattle.layout.specs.Code.{edge_of, bare, Small};
@@ -10,7 +11,7 @@ use layout::{Field, Profile};
 use refusals::{Kind, Refusal};
 
 // What tests of edges find: none of the faults, or the first of them.
-#[derive(Drop)]
+#[derive(Clone, Copy)]
 pub enum Verdict {
     Faultless,
     Faulty(Refusal),
@@ -89,7 +90,7 @@ pub fn or_leaving(found: Verdict, place: usize) -> Verdict
 }
 
 // Where a walk over a file's edges stands: the rank of the edge before, the bit at which the next one begins, and its index.
-#[derive(Drop)]
+#[derive(Clone, Copy)]
 pub struct Cursor {
     pub rank: usize,
     pub place: usize,

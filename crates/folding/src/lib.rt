@@ -1,11 +1,12 @@
 // An accepted file reduced: its classes settled, merged and written.
+#![tactic(auto)]
 ghost use Rattle.table.specs.Table.{table};
 ghost use Rattle.folding.specs.Folding.{rooms, Foldable, Folded};
 
 use layout::{Profile, Reading};
 
 // Of a reduced filter: its states, its distinct colours, the rounds made, and its file's length in bytes.
-#[derive(Drop)]
+#[derive(Clone, Copy)]
 pub struct Counts {
     pub states: usize,
     pub colours: usize,

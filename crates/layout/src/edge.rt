@@ -8,7 +8,7 @@ ghost use Rattle.layout.specs.Code.{Usable, Small, Pushable, edge_of, bare};
 use crate::{Field, Profile};
 use pen::Pen;
 
-#[derive(Drop)]
+#[derive(Clone, Copy)]
 pub struct Edge {
     pub source: usize,
     pub label: usize,
@@ -16,7 +16,7 @@ pub struct Edge {
 }
 
 // An edge's three fields with their places.
-#[derive(Drop)]
+#[derive(Clone, Copy)]
 pub struct Placed {
     pub source: Field,
     pub label: Field,

@@ -1,5 +1,6 @@
 // How a filter stands in a file: the widths of its fields, sizes and positions, the four numbers before the colours, and one
 // edge.
+#![tactic(auto)]
 pub mod edge; // one edge, read or written
 pub mod header; // the four numbers before the colours
 
@@ -10,14 +11,14 @@ ghost use Rattle.layout.specs.Contents.{states_in, colour_at};
 ghost use Rattle.layout.specs.Code.{Usable};
 
 // The colour that no edge may leave, for it shuts the drive down; or that a file has none.
-#[derive(Drop)]
+#[derive(Clone, Copy)]
 pub enum FaultColour {
     None,
     Is(usize),
 }
 
 // The widths in bits of a file's fields: states, labels, start, edges, and one colour; and the fault colour.
-#[derive(Drop)]
+#[derive(Clone, Copy)]
 pub struct Profile {
     pub states: usize,
     pub labels: usize,
@@ -28,14 +29,14 @@ pub struct Profile {
 }
 
 // A field and its place: in a file the position of its first bit, in a list the index of its edge.
-#[derive(Drop)]
+#[derive(Clone, Copy)]
 pub struct Field {
     pub value: usize,
     pub place: usize,
 }
 
 // The numbers of an accepted file: n, m, the start and e.
-#[derive(Drop)]
+#[derive(Clone, Copy)]
 pub struct Reading {
     pub states: usize,
     pub labels: usize,

@@ -1,4 +1,5 @@
 // The filter of classes: its edges gathered in the table, and written as a file.
+#![tactic(auto)]
 ghost use Rattle.std.specs.Prelude.{◌≡◌, ℕ, length, take};
 ghost use Rattle.std.proofs.Math.Option.{none};
 ghost use Rattle.meaning.specs.Search.{tab};
@@ -32,7 +33,7 @@ fn gather(targets: &mut [u8], labels: &mut [u64], names: &[u16; 256], n: usize)
 }
 
 // How many classes there are, and the length of their file.
-#[derive(Drop)]
+#[derive(Clone, Copy)]
 pub struct Made {
     pub states: usize,
     pub length: usize,

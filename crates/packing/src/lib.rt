@@ -1,4 +1,5 @@
 // Packing a colour list and an edge list into a filter file.
+#![tactic(auto)]
 ghost use Rattle.std.specs.Prelude.{◌≡◌, ◌∷◌, [], ◌+◌, ◌*◌, ◌/◌, ◌<◌, length};
 ghost use Rattle.std.proofs.Math.Option.{none};
 ghost use Rattle.pen.specs.Runs.{put_fields};
@@ -18,7 +19,7 @@ use layout::{FaultColour, Profile};
 use refusals::{Kind, Refusal};
 
 // The length of the packed file.
-#[derive(Drop)]
+#[derive(Clone, Copy)]
 pub enum Packed {
     Accepted(usize),
     Refused(Refusal),

@@ -1,4 +1,5 @@
 // The search for a conflicting pair, and for the class that a round takes.
+#![tactic(auto)]
 ghost use Rattle.std.specs.Prelude.{◌≡◌, take};
 ghost use Rattle.meaning.specs.Classes.{first};
 ghost use Rattle.meaning.specs.ClassesLaws.{Named};
@@ -8,7 +9,7 @@ ghost use Rattle.conflicts.specs.Conflicts.{clash};
 ghost use Rattle.pairs.specs.Pairs.{found_of};
 
 // What the search of a class finds: a conflicting pair, or none.
-#[derive(Drop)]
+#[derive(Clone, Copy)]
 enum Found {
     Pair(usize, usize),
     Nothing,

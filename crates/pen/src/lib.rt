@@ -1,11 +1,12 @@
 // Fields one behind another in a slice of bytes, read and written. A pen holds back the bits of the last fields and stores four
 // bytes at a time, so that no byte is read that was stored just before: the processor would wait for it.
+#![tactic(auto)]
 ghost use Rattle.std.specs.Prelude.{◌≡◌, [], ◌∷◌, ◌++◌, ◌≤◌, length, drop, replicate};
 ghost use Rattle.pen.specs.Runs.{fields, put_fields, inked, place_of};
 ghost use Rattle.pen.specs.Runs.{Readable, Writable, Ready, Pushable, Drawn};
 
 // The first `bits` bits from byte `at` on, as the number `held`: they are not stored yet.
-#[derive(Drop)]
+#[derive(Clone, Copy)]
 pub struct Pen {
     pub at: usize,
     pub held: u64,

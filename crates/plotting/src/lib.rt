@@ -1,4 +1,5 @@
 // The drawing of a file's filter: its extent, and its text put into a room that holds it.
+#![tactic(auto)]
 ghost use Rattle.std.specs.Prelude.{◌≡◌, ◌+◌, ◌*◌, ◌≤◌, length, take};
 ghost use Rattle.text.specs.Decimal.{wrote};
 ghost use Rattle.layout.specs.Code.{Usable};
@@ -9,7 +10,7 @@ ghost use Rattle.plotting.specs.Plot.{text_of, extent_of, Plottable};
 use layout::Profile;
 
 // How long the drawing is, and the largest label plus one, or 1 without edges.
-#[derive(Drop)]
+#[derive(Clone, Copy)]
 pub struct Extent {
     pub length: usize,
     pub labels: usize,

@@ -1,4 +1,5 @@
 // Reduces the filter file on standard input, and prints its counts and the new number of each state.
+#![tactic(auto)]
 use libc::{STDIN_FILENO, STDOUT_FILENO};
 
 fn main() {

@@ -1,4 +1,5 @@
 // Reducing a filter file.
+#![tactic(auto)]
 ghost use Rattle.layout.specs.Layout.{large, pocket};
 ghost use Rattle.table.specs.Table.{table};
 ghost use Rattle.loading.specs.Loading.{Loadable, Tabled};
@@ -10,7 +11,7 @@ use folding::Counts;
 use layout::Profile;
 use refusals::{Kind, Refusal};
 
-#[derive(Drop)]
+#[derive(Clone, Copy)]
 pub enum Reduced {
     Accepted(Counts),
     Refused(Refusal),

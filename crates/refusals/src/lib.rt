@@ -1,8 +1,9 @@
 // Why a file, a list or a room is refused.
+#![tactic(auto)]
 ghost use Rattle.std.specs.Prelude.{◌≡◌};
 ghost use Rattle.refusals.specs.Refusals.{number_of};
 
-#[derive(Drop)]
+#[derive(Clone, Copy)]
 pub enum Kind {
     TooShort,
     Start,
@@ -23,7 +24,7 @@ pub enum Kind {
     Leaving,
 }
 
-#[derive(Drop)]
+#[derive(Clone, Copy)]
 pub struct Refusal {
     pub kind: Kind,
     pub place: usize,

@@ -1,9 +1,10 @@
 // Words and numbers, read from a text where they stand. A place is counted from the beginning of the text.
+#![tactic(auto)]
 ghost use Rattle.std.specs.Prelude.{◌≡◌, ◌+◌, ◌≤◌, ◌<◌, ◌^◌, eqb, length};
 ghost use Rattle.spelling.specs.Spelling.{matched, digit_of, digit_at, clipped, numeral, number_at};
 
 // A number and the place behind it; where none stands, it ends where it was looked for.
-#[derive(Drop)]
+#[derive(Clone, Copy)]
 pub struct Number {
     pub value: usize,
     pub end: usize,

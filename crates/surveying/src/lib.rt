@@ -1,4 +1,5 @@
 // What has to be known of a text before a file is written from it: a text read once from its beginning to its end.
+#![tactic(auto)]
 ghost use Rattle.std.specs.Prelude.{◌≡◌, ◌+◌, ◌^◌, ◌≤◌, ◌<◌, eqb, length};
 ghost use Rattle.std.proofs.Math.Option.{some};
 ghost use Rattle.meaning.specs.Pick.{pick};
@@ -20,7 +21,7 @@ use refusals::{Kind, Refusal};
 
 // How many states and edges there are, the largest colour plus one, where the edges begin, m, and the number that the next state
 // would have.
-#[derive(Drop)]
+#[derive(Clone, Copy)]
 pub struct Survey {
     pub states: usize,
     pub colours: usize,
@@ -31,7 +32,7 @@ pub struct Survey {
 }
 
 // The survey of a text of the profile and the fault of its edges; or where the text leaves the profile.
-#[derive(Drop)]
+#[derive(Clone, Copy)]
 pub enum Surveyed {
     Inside(Survey, Verdict),
     Outside(usize),
@@ -99,7 +100,7 @@ impl Survey {
 
 // The edges so far: the first fault of their own; without one, the rank of the last of them, and which is the first that leaves the
 // fault colour, counted from 1; 0: none does. A number is kept in a register, where a verdict would be copied at each edge.
-#[derive(Drop)]
+#[derive(Clone, Copy)]
 struct Testing {
     verdict: Verdict,
     last: usize,

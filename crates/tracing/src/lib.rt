@@ -1,4 +1,5 @@
 // Tracing observations through a filter file.
+#![tactic(auto)]
 ghost use Rattle.std.specs.Prelude.{◌≡◌, ◌+◌, ◌<◌};
 ghost use Rattle.layout.specs.Layout.{large, pocket};
 ghost use Rattle.table.specs.Table.{table, look, Rows};
@@ -11,7 +12,7 @@ use layout::Profile;
 use refusals::{Kind, Refusal};
 
 // All observations traced; or stopped at the first without an edge.
-#[derive(Drop)]
+#[derive(Clone, Copy)]
 pub enum Traced {
     All,
     Stopped(usize),
@@ -123,13 +124,13 @@ fn refused(kind: Kind, place: usize) -> Traced
 }
 
 // A ride in progress: the current state and the observations taken.
-#[derive(Drop)]
+#[derive(Clone, Copy)]
 struct Ride {
     state: usize,
     taken: usize,
 }
 
-#[derive(Drop)]
+#[derive(Clone, Copy)]
 enum Step {
     Next(Ride),
     Stopped(usize),

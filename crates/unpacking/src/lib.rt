@@ -1,4 +1,5 @@
 // Unpacking a filter file.
+#![tactic(auto)]
 ghost use Rattle.std.specs.Prelude.{◌≡◌, ◌++◌, ◌*◌, drop};
 ghost use Rattle.layout.specs.Layout.{large, pocket, flat};
 ghost use Rattle.layout.specs.Contents.{edges_from};
@@ -11,7 +12,7 @@ use edges::Cursor;
 use layout::{Profile, Reading};
 use refusals::{Kind, Refusal};
 
-#[derive(Drop)]
+#[derive(Clone, Copy)]
 pub enum Unpacked {
     Accepted(Reading),
     Refused(Refusal),
