@@ -1,6 +1,7 @@
 // Answers a batch of cases, for comparison with the second program. `cases` says how a case is framed, `calls` which calls
 // there are. A string has at most 400,000 bytes. A case that is cut off, or of another call, ends the batch.
 #![tactic(auto)]
+
 ghost use Rattle.std.specs.Prelude.{◌≡◌, length};
 
 use cases::{Head, Next};

@@ -1,5 +1,6 @@
 // Fresh arrays with an entry for each of 256 states, and their entries as wide numbers.
 #![tactic(auto)]
+
 ghost use Rattle.std.specs.Prelude.{◌≡◌, ◌<◌, length, replicate};
 
 pub fn wide(x: u16) -> usize

@@ -1,5 +1,6 @@
 // One field of bits in a slice of bytes, most significant bit first.
 #![tactic(auto)]
+
 ghost use Rattle.std.specs.Prelude.{◌≡◌, ◌+◌, ◌*◌, ◌%◌, ◌^◌, ◌≤◌, ◌<◌, get_or, set};
 ghost use Rattle.bits.specs.Bits.{field, put_field, splice};
 

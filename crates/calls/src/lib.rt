@@ -8,6 +8,7 @@
 // 7, to_dot: a is the file, c the room. 8 to 12: calls 1 to 5 on a pocket file. 13, to_large, and 14, to_pocket: a is the file, c the
 // room.
 #![tactic(auto)]
+
 ghost use Rattle.std.specs.Prelude.{◌≡◌, [], ◌∷◌, ◌≤◌, length};
 ghost use Rattle.refusals.specs.Refusals.{number_of, refusal_outcome};
 ghost use Rattle.files.specs.Files.{reading_outcome};

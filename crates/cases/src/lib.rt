@@ -4,6 +4,7 @@
 // bytes for each of the strings a, b and c. Out, each case: 1 byte, the refusal's number or 0; 8 bytes, its place; four counts
 // of 8 bytes; then the strings b and c.
 #![tactic(auto)]
+
 ghost use Rattle.std.specs.Prelude.{◌≡◌, ◌≤◌, ◌<◌, ◌^◌, length};
 
 use libc::{STDIN_FILENO, STDOUT_FILENO};

@@ -1,5 +1,6 @@
 // Checking a filter file.
 #![tactic(auto)]
+
 ghost use Rattle.std.specs.Prelude.{◌≡◌};
 ghost use Rattle.refusals.specs.Refusals.{onward, refusal_outcome};
 ghost use Rattle.layout.specs.Layout.{large, pocket};

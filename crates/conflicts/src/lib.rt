@@ -1,5 +1,6 @@
 // Conflict of two states, judged by the names of the classes that their edges lead to.
 #![tactic(auto)]
+
 ghost use Rattle.std.specs.Prelude.{◌≡◌, ◌+◌, length};
 ghost use Rattle.table.specs.Table.{table, Rows};
 ghost use Rattle.conflicts.specs.Conflicts.{clash};

@@ -1,5 +1,6 @@
 // A filter file turned into the file of the other profile.
 #![tactic(auto)]
+
 ghost use Rattle.layout.specs.Layout.{large, pocket};
 ghost use Rattle.checking.specs.Promise.{CheckPromise};
 ghost use Rattle.converting.specs.Promise.{ConvertPromise};

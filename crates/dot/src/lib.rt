@@ -1,5 +1,6 @@
 // Drawings in Graphviz's language: a text of the narrow profile becomes a filter file, a filter file becomes a text.
 #![tactic(auto)]
+
 ghost use Rattle.std.specs.Prelude.{◌≡◌, [], ◌∷◌, length};
 ghost use Rattle.refusals.specs.Refusals.{accepted, first_of, room_test};
 ghost use Rattle.layout.specs.Layout.{large};

@@ -1,6 +1,7 @@
 // What a statement of a drawing is read as, and two parts of it that are read from a text where they stand: its label, and an edge's
 // target. Fixed words are compared, numbers are read. A place is counted from the beginning of the text.
 #![tactic(auto)]
+
 ghost use Rattle.std.specs.Prelude.{◌≡◌, ◌≤◌, length};
 ghost use Rattle.meaning.specs.Pick.{pick};
 ghost use Rattle.drawing.specs.Profile.{larger};

@@ -1,5 +1,6 @@
 // Edges tested one behind another: 7, 8 and 9, the first of several that get 17, and the cursor that walks over a file's edges.
 #![tactic(auto)]
+
 ghost use Rattle.std.specs.Prelude.{◌≡◌};
 ghost use Rattle.std.proofs.Math.Option.{some};
 ghost use Rattle.layout.specs.Code.{edge_of, bare, Small};

@@ -1,5 +1,6 @@
 // An accepted file reduced: its classes settled, merged and written.
 #![tactic(auto)]
+
 ghost use Rattle.table.specs.Table.{table};
 ghost use Rattle.folding.specs.Folding.{rooms, Foldable, Folded};
 

@@ -1,5 +1,6 @@
 // The groups of a class: each member gets the smallest group that no earlier conflicting member has.
 #![tactic(auto)]
+
 ghost use Rattle.std.specs.Prelude.{◌≡◌, not, ◌≤◌, ◌<◌, length, replicate};
 ghost use Rattle.sets.specs.Sets.{contains};
 ghost use Rattle.table.specs.Table.{table};

@@ -1,6 +1,7 @@
 // The file of the filter that a text draws, written into a room that holds it. The text is read again, so that nothing as long as it
 // has to be kept; its words need no second look.
 #![tactic(auto)]
+
 ghost use Rattle.std.specs.Prelude.{◌≡◌, [], ◌∷◌, ◌++◌, length, replicate};
 ghost use Rattle.bits.specs.Bits.{put_field};
 ghost use Rattle.pen.specs.Runs.{put_fields, inked, place_of, Pushable};

@@ -1,6 +1,7 @@
 // How a filter stands in a file: the widths of its fields, sizes and positions, the four numbers before the colours, and one
 // edge.
 #![tactic(auto)]
+
 pub mod edge; // one edge, read or written
 pub mod header; // the four numbers before the colours
 

@@ -1,6 +1,7 @@
 // The first edge of a file that leaves the fault colour, looked for when every edge has passed 7, 8 and 9. Edges ascend by their
 // sources: those of a state stand side by side and are found by halving, so that only edges out of a state of that colour are read again.
 #![tactic(auto)]
+
 ghost use Rattle.std.specs.Prelude.{◌≡◌, false, ◌+◌, ◌*◌, ◌^◌, ◌≤◌, ◌<◌};
 ghost use Rattle.std.proofs.Math.Option.{some};
 ghost use Rattle.layout.specs.declared.FaultColour.TheVariants.{Is};

@@ -1,5 +1,6 @@
 // One statement of a drawing, put into a lent room: fixed words are copied, with the numbers between them. And how long it is.
 #![tactic(auto)]
+
 ghost use Rattle.std.specs.Prelude.{◌≡◌, ◌++◌, ◌+◌, ◌≤◌, ◌<◌, length};
 ghost use Rattle.text.specs.Decimal.{decimal, wrote};
 ghost use Rattle.layout.specs.Code.{edge_of, Small};

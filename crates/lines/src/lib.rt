@@ -1,5 +1,6 @@
 // The lines that `reduce` prints, and the refusal line, put into a lent room one behind another.
 #![tactic(auto)]
+
 ghost use Rattle.std.specs.Prelude.{◌≡◌, ◌+◌, ◌*◌, ◌<◌, ◌≤◌, length};
 ghost use Rattle.refusals.specs.Refusals.{number_of};
 ghost use Rattle.text.specs.Decimal.{wrote};

@@ -1,5 +1,6 @@
 // A file checked and put into a table in one pass over its edges, and the colours of its states.
 #![tactic(auto)]
+
 ghost use Rattle.std.specs.Prelude.{◌≡◌};
 ghost use Rattle.layout.specs.Layout.{large, pocket};
 ghost use Rattle.layout.specs.Contents.{states_in};

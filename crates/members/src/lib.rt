@@ -1,5 +1,6 @@
 // Who follows whom in a class, and how many classes there are.
 #![tactic(auto)]
+
 ghost use Rattle.std.specs.Prelude.{◌≡◌, ◌≤◌, length};
 ghost use Rattle.meaning.specs.Classes.{classes};
 ghost use Rattle.members.specs.Members.{Linkable, Relinkable, Linked};

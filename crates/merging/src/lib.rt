@@ -1,5 +1,6 @@
 // The filter of classes: its edges gathered in the table, and written as a file.
 #![tactic(auto)]
+
 ghost use Rattle.std.specs.Prelude.{◌≡◌, ℕ, length, take};
 ghost use Rattle.std.proofs.Math.Option.{none};
 ghost use Rattle.meaning.specs.Search.{tab};

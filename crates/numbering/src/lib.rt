@@ -1,5 +1,6 @@
 // Classes numbered 0 upward by ascending name: the new number of each state, and the name and the colour of each class.
 #![tactic(auto)]
+
 ghost use Rattle.std.specs.Prelude.{◌≡◌, ℕ, ◌<◌, ◌≤◌, length, take};
 ghost use Rattle.meaning.specs.Search.{tab, at};
 ghost use Rattle.meaning.specs.Classes.{classes};

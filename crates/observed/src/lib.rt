@@ -1,5 +1,6 @@
 // Observations, before a ride: the first that is no label of the filter.
 #![tactic(auto)]
+
 ghost use Rattle.std.specs.Prelude.{◌≡◌, ltb, length};
 ghost use Rattle.std.proofs.Math.Option.{none, some};
 ghost use Rattle.meaning.specs.Pick.{pick};

@@ -1,5 +1,6 @@
 // The search for a conflicting pair, and for the class that a round takes.
 #![tactic(auto)]
+
 ghost use Rattle.std.specs.Prelude.{◌≡◌, take};
 ghost use Rattle.meaning.specs.Classes.{first};
 ghost use Rattle.meaning.specs.ClassesLaws.{Named};

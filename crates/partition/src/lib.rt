@@ -1,5 +1,6 @@
 // The classes of the states, as they travel from round to round: their beginning, and one split.
 #![tactic(auto)]
+
 ghost use Rattle.std.specs.Prelude.{◌≡◌, ℕ, ◌+◌, ◌<◌, ◌≤◌, length};
 ghost use Rattle.meaning.specs.Search.{tab, at};
 ghost use Rattle.meaning.specs.Reach.{among};

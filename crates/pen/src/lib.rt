@@ -1,6 +1,7 @@
 // Fields one behind another in a slice of bytes, read and written. A pen holds back the bits of the last fields and stores four
 // bytes at a time, so that no byte is read that was stored just before: the processor would wait for it.
 #![tactic(auto)]
+
 ghost use Rattle.std.specs.Prelude.{◌≡◌, [], ◌∷◌, ◌++◌, ◌≤◌, length, drop, replicate};
 ghost use Rattle.pen.specs.Runs.{fields, put_fields, inked, place_of};
 ghost use Rattle.pen.specs.Runs.{Readable, Writable, Ready, Pushable, Drawn};

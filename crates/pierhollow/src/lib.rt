@@ -1,6 +1,7 @@
 // The calls for C on large files and drawings. Each returns 0 for accepted, else the refusal's place times 256 plus its number, and a place of 2^56 or more as
 // 2^56 - 1; include/pierhollow.h says which value stands where in the lent array.
 #![tactic(auto)]
+
 ghost use Rattle.layout.specs.Layout.{large};
 ghost use Rattle.unpacking.specs.Promise as unpacking;
 ghost use Rattle.folding.specs.Folding as folding;

@@ -1,6 +1,7 @@
 // The calls for C that turn a file of one profile into one of the other. They need both files' widths, and stand apart so that no other
 // call pays for that.
 #![tactic(auto)]
+
 ghost use Rattle.layout.specs.Layout.{large, pocket};
 ghost use Rattle.telling.specs.ToC.{ConvertToC};
 

@@ -1,6 +1,7 @@
 // The calls for C on pocket files, apart from those on large files: an archive that reaches the body of a call with one file's widths
 // alone is compiled for these widths. Numbers and values are told as by the calls for large files.
 #![tactic(auto)]
+
 ghost use Rattle.layout.specs.Layout.{pocket};
 ghost use Rattle.unpacking.specs.Promise as unpacking;
 ghost use Rattle.folding.specs.Folding as folding;

@@ -1,5 +1,6 @@
 // The drawing of a file's filter: its extent, and its text put into a room that holds it.
 #![tactic(auto)]
+
 ghost use Rattle.std.specs.Prelude.{◌≡◌, ◌+◌, ◌*◌, ◌≤◌, length, take};
 ghost use Rattle.text.specs.Decimal.{wrote};
 ghost use Rattle.layout.specs.Code.{Usable};

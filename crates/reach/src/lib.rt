@@ -1,6 +1,7 @@
 // The states that the start can reach, found by a walk over the table: breadth first, labels ascending. The walk is one queue of
 // codes, each of which has a number once it is met.
 #![tactic(auto)]
+
 ghost use Rattle.std.specs.Prelude.{◌≡◌, not, ◌+◌, ◌<◌, ◌≤◌, eqb, length, take};
 ghost use Rattle.std.proofs.Math.Option.{some};
 ghost use Rattle.meaning.specs.Search.{at};

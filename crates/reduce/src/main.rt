@@ -1,5 +1,6 @@
 // Reduces the filter file on standard input, and prints its counts and the new number of each state.
 #![tactic(auto)]
+
 use libc::{STDIN_FILENO, STDOUT_FILENO};
 
 fn main() {

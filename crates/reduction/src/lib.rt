@@ -1,5 +1,6 @@
 // Reducing a filter file.
 #![tactic(auto)]
+
 ghost use Rattle.layout.specs.Layout.{large, pocket};
 ghost use Rattle.table.specs.Table.{table};
 ghost use Rattle.loading.specs.Loading.{Loadable, Tabled};

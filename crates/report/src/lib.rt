@@ -1,5 +1,6 @@
 // What `reduce` prints of a filter file.
 #![tactic(auto)]
+
 ghost use Rattle.std.specs.Prelude.{◌≡◌, ◌≤◌, length};
 ghost use Rattle.text.specs.Decimal.{wrote};
 ghost use Rattle.text.specs.Printed.{Printed};

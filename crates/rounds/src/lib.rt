@@ -1,5 +1,6 @@
 // The classes of a filter's states, split round by round until no class has a conflicting pair.
 #![tactic(auto)]
+
 ghost use Rattle.std.specs.Prelude.{◌≡◌, ◌<◌, length};
 ghost use Rattle.meaning.specs.Reach.{among, reached};
 ghost use Rattle.meaning.specs.Classes.{groups};

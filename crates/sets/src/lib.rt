@@ -1,5 +1,6 @@
 // Sets of numbers below 64 in one word, a bit each, and of numbers below 256 in four.
 #![tactic(auto)]
+
 ghost use Rattle.std.specs.Prelude.{◌≡◌, not, ◌&&◌, ◌||◌, ℕ, ◌^◌, ◌≤◌, ◌<◌, eqb};
 ghost use Rattle.std.specs.Int.Count.{ones};
 ghost use Rattle.sets.specs.Sets.{holds, Lowest, Missing};

@@ -1,5 +1,6 @@
 // What `trace` prints of a filter file and observations: its lines, put into a lent room one behind another.
 #![tactic(auto)]
+
 ghost use Rattle.std.specs.Prelude.{◌≡◌, ◌++◌, ◌+◌, ◌*◌, ◌≤◌, length};
 ghost use Rattle.text.specs.Decimal.{wrote};
 ghost use Rattle.lines.specs.Text.{ended};

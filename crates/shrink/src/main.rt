@@ -1,5 +1,6 @@
 // Writes the reduced file of the filter file on standard input, or nothing for a refusal.
 #![tactic(auto)]
+
 use libc::{STDIN_FILENO, STDOUT_FILENO};
 
 fn main() {

@@ -1,5 +1,6 @@
 // What `shrink` writes of a filter file.
 #![tactic(auto)]
+
 ghost use Rattle.text.specs.Printed.{Printed};
 ghost use Rattle.shrunk.specs.Shrunk.{shrink_bytes};
 

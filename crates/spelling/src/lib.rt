@@ -1,5 +1,6 @@
 // Words and numbers, read from a text where they stand. A place is counted from the beginning of the text.
 #![tactic(auto)]
+
 ghost use Rattle.std.specs.Prelude.{◌≡◌, ◌+◌, ◌≤◌, ◌<◌, ◌^◌, eqb, length};
 ghost use Rattle.spelling.specs.Spelling.{matched, digit_of, digit_at, clipped, numeral, number_at};
 

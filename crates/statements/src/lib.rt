@@ -1,5 +1,6 @@
 // One statement of a drawing, read from a text where it stands. A place is counted from the beginning of the text.
 #![tactic(auto)]
+
 ghost use Rattle.std.specs.Prelude.{◌≡◌, ◌≤◌, ◌<◌, ◌^◌, eqb, length, get_or};
 ghost use Rattle.drawing.specs.Reader.{labelled_at, closing_at, begins_state, statement_at, statement_of, line_at};
 

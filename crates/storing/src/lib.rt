@@ -1,5 +1,6 @@
 // A table written as a file: its rows in a given order, their targets led by a list.
 #![tactic(auto)]
+
 ghost use Rattle.std.specs.Prelude.{◌≡◌, ℕ, ◌/◌, ◌<◌, ◌≤◌, ◌^◌, length};
 ghost use Rattle.meaning.specs.Search.{at};
 ghost use Rattle.meaning.specs.Reduced.{row};

@@ -2,6 +2,7 @@
 // the sets are looked at for whether there is an edge, so that a fresh table's targets may be anything. They are 255, which few
 // filters have as a state: code that forgets to ask the sets then goes wrong where it is seen.
 #![tactic(auto)]
+
 ghost use Rattle.std.specs.Prelude.{◌≡◌, ◌+◌, ◌*◌, ◌≤◌, ◌<◌, length, replicate};
 ghost use Rattle.meaning.specs.Search.{at};
 ghost use Rattle.table.specs.Table.{table, Rows, Put, Gave};

@@ -1,5 +1,6 @@
 // What a C caller is told: a refusal's place and number as one number, and the values of an accepted call in the lent array.
 #![tactic(auto)]
+
 ghost use Rattle.std.specs.Prelude.{◌≡◌, ◌∷◌, [], ◌+◌, ◌*◌, ◌^◌, ◌<◌};
 ghost use Rattle.refusals.specs.Refusals.{number_of};
 ghost use Rattle.checking.specs.Promise.{checked_outcome};

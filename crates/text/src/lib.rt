@@ -1,5 +1,6 @@
 // Text put into a lent room: bytes as they are, and numbers in decimal.
 #![tactic(auto)]
+
 ghost use Rattle.std.specs.Prelude.{◌≡◌, [], ◌∷◌, ◌++◌, ◌+◌, ◌≤◌, length};
 ghost use Rattle.text.specs.Decimal.{decimal, wrote};
 ghost use Rattle.text.specs.Printed.{Printed};

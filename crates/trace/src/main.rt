@@ -1,5 +1,6 @@
 // Traces the observations on standard input through the filter file that the first argument names, and prints the colours.
 #![tactic(auto)]
+
 ghost use Rattle.io.specs.Counts.{IsPrefixLen};
 
 use libc::{STDIN_FILENO, STDOUT_FILENO};

@@ -1,5 +1,6 @@
 // Tracing observations through a filter file.
 #![tactic(auto)]
+
 ghost use Rattle.std.specs.Prelude.{◌≡◌, ◌+◌, ◌<◌};
 ghost use Rattle.layout.specs.Layout.{large, pocket};
 ghost use Rattle.table.specs.Table.{table, look, Rows};

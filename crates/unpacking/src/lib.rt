@@ -1,5 +1,6 @@
 // Unpacking a filter file.
 #![tactic(auto)]
+
 ghost use Rattle.std.specs.Prelude.{◌≡◌, ◌++◌, ◌*◌, drop};
 ghost use Rattle.layout.specs.Layout.{large, pocket, flat};
 ghost use Rattle.layout.specs.Contents.{edges_from};

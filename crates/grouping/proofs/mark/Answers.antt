@@ -1,0 +1,70 @@
+use Prim.Native.Nat.{◌+◌, ◌-◌}
+use native.Mathlib.Omega.{arith}
+use mathlib.Core.Path.{sym, ap, ◌∙◌}
+use mathlib.Core.Logic.{⊎_elim}
+use borrow.Author.Tests.{not-false}
+use Rattle.sets.specs.Sets.{contains}
+use Rattle.members.proofs.Laws.{Hop, at_head, hop}
+use Rattle.grouping.proofs.Laws.{first_until, next_until}
+use Rattle.grouping.proofs.Laws.{marked_none, marked_skip, marked_calm, marked_again, marked_more, marked_all}
+use Rattle.grouping.proofs.mark.Goals as goal
+use Rattle.grouping.proofs.mark.Goals.{After-wide-t}
+
+pub loop-t-init : goal.loop-t-init
+loop-t-init c =
+    let pre = c.requires in
+    let head = pre.1 in (
+      first_until _ _ _ _ head pre.2.member,
+      at_head _ _ _ head,
+      marked_skip _ _ _ _ _ _ _ 0 (marked_none _ _ _ _ _) _ (omega arith) (λ x h l. head.before x l),
+    )
+
+pub unmarked-requires : goal.unmarked-requires
+unmarked-requires c =
+    let marked = c.loop-t.invariant.2 in
+    (marked.below, c.wide_byte-group.ensures.1, marked.long)
+
+step : (c : After-wide-t)
+    → let a = c.args in
+    Hop a.names.now a.n a.c c.loop-t.t c.wide-t.result
+step c =
+    let pre = c.requires in
+    hop _ _ _ pre.0.linked _ _ _ c.loop-t.invariant.1 (omega (arith, pre.2.inside)) c.wide-t.ensures
+
+pub loop-t-smaller : goal.loop-t-smaller
+loop-t-smaller c = let next = step c in
+    omega (arith, next.after, next.stands.inside)
+
+pub loop-t-preserved : goal.loop-t-preserved
+loop-t-preserved c =
+    let here = c.loop-t-test.true in
+    let pre = c.requires in
+    let inv = c.loop-t.invariant in
+    let next = step c in
+    let t = c.loop-t.t in
+    let is = c.wide_byte-group.ensures in
+    let member = inv.1.member (omega (arith, pre.2.inside)) in
+    let behind = ⊎_elim
+    (λ w. marked_more _ _ _ _ _ _ _ t inv.2 _ _ _ _ w.5 w.3.ensures is.0 is.1 (omega (arith, w.6, w.4.ensures.0))
+    (omega (arith, w.6, w.4.ensures.1)) member (sym w.1.ensures ∙ w.2.taken))
+    (⊎_elim
+    (λ w. marked_calm _ _ _ _ _ _ _ t inv.2 _ _ w.3 w.4 (sym w.1.ensures ∙ w.2.left))
+    (λ w. marked_again _ _ _ _ _ _ _ t inv.2 _ _ w.1 w.2 (rw (← is.0) is.1)
+    (ap (contains c.loop-t.words) (sym is.0) ∙ not-false _ (sym c.unmarked.ensures ∙ w.0.left))))
+    c.if-unmarked.branch in (
+      next_until _ _ _ _ _ _ next here pre.2.member,
+      next.stands,
+      marked_skip _ _ _ _ _ _ _ (t + 1) behind _ (omega (arith, next.after)) (λ x h l. next.gap x (omega arith) l),
+    )
+
+pub returns : goal.returns
+returns c = marked_all _ _ _ _ _ _ _ _ c.loop-t.invariant.2 (omega arith)
+
+pub bounds-words-w : goal.bounds-words-w
+bounds-words-w c = omega (arith, c.wide_byte-group.ensures.1)
+
+pub bounds-words-w-then-conflict : goal.bounds-words-w-then-conflict
+bounds-words-w-then-conflict c = omega (arith, c.wide_byte-group.ensures.1)
+
+pub overflow_add-group : goal.overflow_add-group
+overflow_add-group c = omega (arith, c.wide_byte-group.ensures.1)

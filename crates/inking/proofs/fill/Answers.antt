@@ -1,0 +1,12 @@
+-- `inking::fill` meets its contract. Assumes nothing.
+use mathlib.Core.Path.{◌∙◌}
+use Rattle.pen.specs.Runs.{put_fields}
+use Rattle.inking.proofs.fill.Goals as goal
+
+pub finish-requires : goal.finish-requires
+finish-requires c = c.push-filled.ensures.ready
+
+pub returns : goal.returns
+unfolding put_fields
+returns c =
+    c.finish.ensures ∙ c.push-filled.ensures.ink

@@ -1,0 +1,71 @@
+use mathlib.Core.Path.{sym, ap, ◌∙◌}
+use mathlib.Core.Logic.{⊎_elim}
+use Prim.Native.Nat.{ℕ, ◌+◌, ◌*◌, ◌-◌, ◌≤◌}
+use native.Mathlib.Omega.{arith}
+use Rattle.bits.specs.Bits.{field}
+use Rattle.edges.specs.Walk.{fault_of}
+use Rattle.leaving.proofs.Laws.{few_states, none_left, none_begun, none_eight, none_other}
+use Rattle.leaving.proofs.first.Goals as goal
+use Rattle.leaving.proofs.first.Goals.{In-loop-s}
+
+pub loop-s-init : goal.loop-s-init
+loop-s-init c = none_begun _ _ _ _ c.requires.0 _ c.requires.1
+
+-- states have small numbers
+low : (c : In-loop-s) → c.loop-s.s ≤ 256
+low c = omega (arith, c.loop-s-test.true, few_states _ _ _ _ c.requires.0)
+
+pub overflow_mul-s : goal.overflow_mul-s
+overflow_mul-s c = omega (arith, low c)
+
+pub overflow_add-begin : goal.overflow_add-begin
+overflow_add-begin c = omega (arith, low c, c.header_bits-begin.ensures.1)
+
+pub some_is_63-requires : goal.some_is_63-requires
+some_is_63-requires c = c.get_long.ensures.1
+
+pub colour-requires : goal.colour-requires
+colour-requires c = (c.requires.0.usable, low (goal.at.colour-requires c).In-loop-s)
+
+pub edges_of-verdict-requires : goal.edges_of-verdict-requires
+edges_of-verdict-requires c =
+    let pre = c.requires in
+    (pre.0, pre.1, sym c.colour.ensures ∙ c.if-colour.true)
+
+pub returns-in_default : goal.returns-in_default
+returns-in_default c =
+    let loop = looped c in
+    let is = ap fault_of c.enum_told-in_default-1.given.1 in
+    is ∙ sym (c.edges_of-verdict.ensures.one_leaves loop.loop.inv _ is)
+
+pub overflow_add-s : goal.overflow_add-s
+overflow_add-s c = omega (arith, low (goal.at.overflow_add-s c).In-loop-s)
+
+pub loop-s-smaller-then-some_is_63 : goal.loop-s-smaller-then-some_is_63
+loop-s-smaller-then-some_is_63 c = omega (arith, c.loop-s-test.true)
+
+pub loop-s-preserved-then-some_is_63 : goal.loop-s-preserved-then-some_is_63
+loop-s-preserved-then-some_is_63 c =
+    let loop = looped c in
+    let pre = loop.pre in
+    ⊎_elim (λ came. came.1.ensures.none_leaves loop.loop.inv (ap fault_of came.3.given.1))
+    (λ other. none_other _ _ _ _ pre.0 _ pre.1 _ loop.loop.inv (λ is. other.left (c.colour.ensures ∙ is))) c.if-colour.branch
+
+pub overflow_add-s-else-some_is_63 : goal.overflow_add-s-else-some_is_63
+overflow_add-s-else-some_is_63 c = omega (arith, low (goal.at.overflow_add-s-else-some_is_63 c).In-loop-s)
+
+pub loop-s-preserved : goal.loop-s-preserved
+loop-s-preserved c =
+    let loop = looped looked in
+    let start = started loop in
+    none_eight _ _ _ _ start.pre.0 _ start.pre.1 _ _ loop.loop.inv
+    (c.get_long.ensures.0 ∙ ap (λ (begin : ℕ). field start.args.file.now (begin + 6 * loop.loop.s) 48) loop.before.header-bits.ensures.0)
+    (c.some_is_63.ensures c.if-some_is_63.false)
+
+pub returns : goal.returns
+returns c =
+    let pre = c.requires in
+    sym (none_left _ _ _ _ pre.0 _ pre.1 _ c.loop-s-test.false c.loop-s.invariant)
+
+pub header_bits-begin-requires : goal.header_bits-begin-requires
+header_bits-begin-requires c = c.requires.0.usable

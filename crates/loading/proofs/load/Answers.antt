@@ -1,0 +1,10 @@
+-- `loading::load` meets its contract. Assumes nothing.
+use Rattle.loading.proofs.load.Goals as goal
+
+pub load_as-requires : goal.load_as-requires
+load_as-requires c =
+    rw c.large.ensures (c.headed.ensures, c.requires)
+
+pub returns : goal.returns
+returns c =
+    rw c.large.ensures at c.load_as.ensures

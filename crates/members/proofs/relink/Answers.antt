@@ -1,0 +1,99 @@
+use Prim.Native.Nat.{◌<◌, ◌-◌}
+use native.Mathlib.Omega.{arith}
+use mathlib.Core.Path.{refl, ◌∙◌}
+use mathlib.Core.Logic.{⊎_elim}
+use Rattle.members.proofs.Laws.{Hop, at_head, hop}
+use Rattle.members.proofs.Relinking.{relinked_none, relinked_skip, relinked_more, relinked_all}
+use Rattle.members.proofs.Relinking.{joined_none, joined_one}
+use Rattle.members.proofs.relink.Goals as goal
+use Rattle.members.proofs.relink.Goals.{After-wide, After-wide-behind, After-wide-d, In-loop-s}
+
+pub loop-s-init : goal.loop-s-init
+loop-s-init c =
+    let lent = c.requires in
+    let none = relinked_none _ _ _ _ _ _ _ refl lent.linked.long c.fresh-latest.ensures.0 in
+    (lent, at_head _ _ _ lent.heads, relinked_skip none _ (omega arith) (λ x h l. lent.heads.before x l))
+
+-- from s on the links are still the older ones
+step : (c : After-wide-behind)
+    → let a = c.args in
+    Hop c.loop-s.invariant.0.old a.n a.c c.loop-s.s c.wide-behind.result
+step c =
+    let here = c.loop-s-test.true in
+    let inv = c.loop-s.invariant in
+    let same = inv.2.still c.loop-s.s here (λ l. absurd (omega arith)) in
+    hop _ _ _ inv.0.linked _ _ _ inv.1 here (c.wide-behind.ensures ∙ same)
+
+state-fits : (c : In-loop-s) → c.loop-s.s < 256
+state-fits c = omega (arith, c.loop-s.invariant.0.few)
+
+-- a new name has a place of its own
+name-fits : (c : After-wide-d) → c.wide-d.result < 256
+name-fits c =
+    let here = c.loop-s-test.true in
+    let inv = c.loop-s.invariant in
+    let low = inv.0.low c.loop-s.s here (inv.1.member here) in
+    omega (arith, c.wide-d.ensures, low, inv.0.few)
+
+-- and so has the last member with it
+latest-fits : (c : After-wide) → c.wide.result < 256
+latest-fits c =
+    let low = (c.loop-s.invariant.2.known c.wide-d.result (name-fits c)).before c.if-before.true in
+    omega (arith, c.wide.ensures, low, c.loop-s.invariant.0.few)
+
+pub loop-s-smaller : goal.loop-s-smaller
+loop-s-smaller c = let next = step (goal.at.loop-s-smaller c).After-wide-behind in
+    omega (arith, next.after, next.stands.inside)
+
+pub loop-s-preserved : goal.loop-s-preserved
+loop-s-preserved c =
+    let here = c.loop-s-test.true in
+    let inv = c.loop-s.invariant in
+    let next = step (goal.at.loop-s-preserved c).After-wide-behind in
+    let joined = ⊎_elim
+    (λ w. joined_one inv.2 w.1.ensures w.2
+    (latest-fits (record { before = record { before = name; if1 = w.0 }; wide3 = w.1 })))
+    (λ w. joined_none inv.2 w.1 w.0.left)
+    c.if-before.branch in
+    let more = relinked_more inv.2 here inv.0.few (inv.1.member here) c.wide-d.ensures (name-fits (goal.at.loop-s-preserved c).After-wide-d) joined in
+    (inv.0, next.stands, relinked_skip more _ (omega (arith, next.after)) (λ x h l. next.gap x (omega arith) l))
+
+pub returns : goal.returns
+returns c = let inv = c.loop-s.invariant in
+    relinked_all inv.0 inv.2 inv.1.inside c.loop-s-test.false
+
+pub offset_bounds-next-s : goal.offset_bounds-next-s
+offset_bounds-next-s c = omega (arith, state-fits c)
+
+pub offset_bounds-names-s : goal.offset_bounds-names-s
+offset_bounds-names-s c = omega (arith, state-fits (goal.at.offset_bounds-names-s c).In-loop-s)
+
+pub bounds-names-s : goal.bounds-names-s
+bounds-names-s c = state-fits (goal.at.bounds-names-s c).In-loop-s
+
+pub offset_bounds-latest-d : goal.offset_bounds-latest-d
+offset_bounds-latest-d c = omega (arith, name-fits c)
+
+pub overflow_cast-next : goal.overflow_cast-next
+overflow_cast-next c = omega (arith, state-fits (goal.at.overflow_cast-next c).In-loop-s)
+
+pub offset_bounds-next-wide : goal.offset_bounds-next-wide
+offset_bounds-next-wide c = omega (arith, latest-fits c)
+
+pub overflow_cast-latest : goal.overflow_cast-latest
+overflow_cast-latest c = omega (arith, state-fits (goal.at.overflow_cast-latest c).In-loop-s)
+
+pub offset_bounds-latest-d-in-loop-s : goal.offset_bounds-latest-d-in-loop-s
+offset_bounds-latest-d-in-loop-s c = omega (arith, name-fits (goal.at.offset_bounds-latest-d-in-loop-s c).After-wide-d)
+
+pub bounds-latest-d-in-loop-s : goal.bounds-latest-d-in-loop-s
+bounds-latest-d-in-loop-s c = omega (arith, name-fits (goal.at.bounds-latest-d-in-loop-s c).After-wide-d)
+
+pub overflow_cast-next-in-loop-s : goal.overflow_cast-next-in-loop-s
+overflow_cast-next-in-loop-s c = omega (arith, c.loop-s.invariant.0.few)
+
+pub offset_bounds-next-s-in-loop-s : goal.offset_bounds-next-s-in-loop-s
+offset_bounds-next-s-in-loop-s c = omega (arith, state-fits (goal.at.offset_bounds-next-s-in-loop-s c).In-loop-s)
+
+pub bounds-next-s-in-loop-s : goal.bounds-next-s-in-loop-s
+bounds-next-s-in-loop-s c = state-fits (goal.at.bounds-next-s-in-loop-s c).In-loop-s

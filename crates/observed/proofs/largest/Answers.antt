@@ -1,0 +1,35 @@
+use mathlib.Core.Path.{◌≡◌, sym, ◌∙◌}
+use mathlib.Core.Logic.{⊎_elim}
+use Prim.Native.Nat.{◌-◌}
+use native.Mathlib.Omega.{arith}
+use borrow.Author.Tests.{lt-ltb, le-ltb}
+use lib.ListN.{get_or}
+use Rattle.observed.specs.Observed.{larger}
+use Rattle.observed.proofs.Laws.{largest_start, largest_next, largest_end}
+use Rattle.observed.proofs.largest.Goals as goal
+
+pub loop-i-init : goal.loop-i-init
+loop-i-init c = (omega arith, largest_start c.args.values.now)
+
+pub loop-i-preserved : goal.loop-i-preserved
+loop-i-preserved c =
+    let loop = c.loop-i in
+    let values = c.args.values.now in
+    let value = get_or values loop.i 0 in
+    let most : c.if-most-value.most ≡ larger loop.most value =
+    ⊎_elim (λ w. w.1 ∙ rw (lt-ltb loop.most value w.0.taken)) (λ w. w.1 ∙ rw (le-ltb loop.most value w.0.left)) c.if-most-value.branch in
+    (omega arith, loop.invariant.1 ∙ largest_next values loop.i loop.most (omega arith) ∙ rw most)
+
+pub returns : goal.returns
+returns c =
+    let loop = c.loop-i in
+    sym (loop.invariant.1 ∙ largest_end c.args.values.now loop.i loop.most c.loop-i-test.false)
+
+pub bounds-values-i : goal.bounds-values-i
+bounds-values-i c = omega arith
+
+pub overflow_add-i : goal.overflow_add-i
+overflow_add-i c = omega arith
+
+pub loop-i-smaller : goal.loop-i-smaller
+loop-i-smaller c = omega arith

@@ -1,0 +1,72 @@
+use Prim.Native.Nat.{◌+◌, ◌-◌}
+use native.Mathlib.Omega.{arith}
+use mathlib.Core.Path.{refl, ◌∙◌}
+use mathlib.Core.Logic.{⊎_elim}
+use Rattle.members.proofs.Laws.{Hop, at_head, hop}
+use Rattle.partition.proofs.Laws.{renamed_none, renamed_skip, renamed_new, renamed_again, renamed_as, renamed-all, rounded_by}
+use Rattle.partition.proofs.Partition.split.Goals as goal
+use Rattle.partition.proofs.Partition.split.Goals.{After-wide-s}
+
+pub group-requires : goal.group-requires
+group-requires c =
+    let pre = c.requires in
+    (pre.0, pre.1, c.zero_bytes-groups.ensures.0)
+
+pub loop-s-init : goal.loop-s-init
+loop-s-init c =
+    let pre = c.requires in
+    let head = pre.1 in
+    let none = renamed_none _ _ _ _ _ _ refl pre.0.names_long c.last_states-firsts.ensures.0 in
+    (at_head _ _ _ head, renamed_skip _ _ _ _ _ _ 0 none _ (omega arith) (λ x h l. head.before x l))
+
+step : (c : After-wide-s)
+    → let a = c.args in
+    Hop a.self.names a.n a.c c.loop-s.s c.wide-s.result
+step c =
+    let linked = c.requires.0.linked in
+    hop _ _ _ linked _ _ _ c.loop-s.invariant.0 c.loop-s-test.true c.wide-s.ensures
+
+pub loop-s-smaller : goal.loop-s-smaller
+loop-s-smaller c = let next = step c in
+    omega (arith, next.after, next.stands.inside)
+
+pub loop-s-preserved : goal.loop-s-preserved
+loop-s-preserved c =
+    let here = c.loop-s-test.true in
+    let pre = c.requires in
+    let next = step c in
+    let s = c.loop-s.s in
+    let before = c.loop-s.invariant.1 in
+    let member = c.loop-s.invariant.0.member here in
+    let is = c.wide_byte-g.ensures in
+    let more = ⊎_elim
+    (λ w. renamed_new _ _ _ _ _ _ s before here pre.0.few member _ _ is.0 w.1 is.1 w.0.taken)
+    (λ w. renamed_again _ _ _ _ _ _ s before here pre.0.few member _ _ is.0 w.1 is.1 w.0.left)
+    c.if-firsts-g.branch in
+    let stored = renamed_as _ _ _ _ c.loop-s.names _ s _ _ more c.wide_byte.ensures.0 in
+    (next.stands, renamed_skip _ _ _ _ _ _ (s + 1) stored _ (omega (arith, next.after)) (λ x h l. next.gap x (omega arith) l))
+
+pub returns : goal.returns
+returns c =
+    let inv = c.loop-s.invariant in
+    let few = c.requires.0.few in
+    let made = c.group.ensures.front in
+    record {
+      long =
+          inv.1.long;
+      names = renamed-all _ _ _ _ _ _ _ inv.1 c.loop-s-test.false few
+          ∙ rounded_by _ _ _ _ _ made;
+      rounds = refl;
+    }
+
+pub bounds-firsts-g : goal.bounds-firsts-g
+bounds-firsts-g c = omega (arith, c.wide_byte-g.ensures.1)
+
+pub bounds-firsts-g-then-firsts-g : goal.bounds-firsts-g-then-firsts-g
+bounds-firsts-g-then-firsts-g c = omega (arith, c.wide_byte-g.ensures.1)
+
+pub bounds-firsts-g-in-loop-s : goal.bounds-firsts-g-in-loop-s
+bounds-firsts-g-in-loop-s c = omega (arith, c.wide_byte-g.ensures.1)
+
+pub overflow_cast-names : goal.overflow_cast-names
+overflow_cast-names c = record { fits = omega (arith, c.wide_byte.ensures.1) }

@@ -1,0 +1,61 @@
+use mathlib.Core.Path.{◌≡◌}
+use Prim.Native.Nat.{ℕ, ◌*◌, ◌-◌, ◌%◌, ◌^◌, ◌<◌}
+use native.Mathlib.Nat.{lt_of_lt_of_le, mod-lt}
+use native.Mathlib.Omega.{arith}
+use lib.ListN.{length-set}
+use lib.Pow.{pow_mono, pow_pos}
+use mir.Syntax.{w8}
+use mir.Val.{Fits}
+use Rattle.bits.proofs.Reading.{field_lt, one_shl}
+use Rattle.pen.proofs.Reading.{read_none, read_near, Three, three, read_three}
+use Rattle.pen.proofs.get_threes.Goals as goal
+use Rattle.pen.proofs.get_threes.Goals.{After-get-three}
+
+pub loop-i-init : goal.loop-i-init
+loop-i-init c = read_none _ _ _ _ _
+
+abbrev width : After-get-three → ℕ
+width c = c.args.width
+
+low : (c : After-get-three) → 1 * 2 ^ width c % 2 ^ 64 ≡ 2 ^ width c
+low c = one_shl (width c) (omega (arith, c.requires.narrow))
+
+parts : (c : After-get-three) →
+    Three c.args.s.now c.loop-i.p (width c) c.get-three.result
+parts c = three c.args.s.now c.loop-i.p (width c) c.get-three.result c.get-three.ensures.0
+
+-- what fits the width is a byte
+byte : (c : After-get-three) (v : ℕ) → v < 2 ^ width c → Fits w8 v
+byte c v h = record { fits = lt_of_lt_of_le h (pow_mono c.requires.narrow) }
+
+pub overflow_cast-out : goal.overflow_cast-out
+overflow_cast-out c = rw (parts c).first (byte c _ (field_lt _ _ _))
+
+pub overflow_add-p : goal.overflow_add-p
+overflow_add-p c = record { fits = read_near 3 (2 ^ 64) c.loop-i.invariant c.loop-i-test.true c.requires.near }
+
+pub loop-i-preserved : goal.loop-i-preserved
+loop-i-preserved c =
+    rw (low c) (read_three c.get-three.result c.loop-i.invariant c.loop-i-test.true c.requires.room
+    (parts c))
+
+pub returns : goal.returns
+returns c = (c.loop-i.invariant.made, c.loop-i.invariant.few)
+
+pub nonzero_rem-out : goal.nonzero_rem-out
+nonzero_rem-out c = rw (low c) (pow_pos (width c))
+
+pub overflow_cast-out-in-loop-i : goal.overflow_cast-out-in-loop-i
+overflow_cast-out-in-loop-i c = rw (low c) (byte c _ (mod-lt _ (pow_pos (width c))))
+
+pub bounds-out-i-in-loop-i : goal.bounds-out-i-in-loop-i
+bounds-out-i-in-loop-i c = simp length-set (omega arith)
+
+pub nonzero_rem-out-in-loop-i : goal.nonzero_rem-out-in-loop-i
+nonzero_rem-out-in-loop-i c = rw (low c) (pow_pos (width c))
+
+pub overflow_cast-out-in-loop-i-2 : goal.overflow_cast-out-in-loop-i-2
+overflow_cast-out-in-loop-i-2 c = rw (low c) (byte c _ (mod-lt _ (pow_pos (width c))))
+
+pub bounds-out-i-in-loop-i-2 : goal.bounds-out-i-in-loop-i-2
+bounds-out-i-in-loop-i-2 c = simp length-set (omega arith)

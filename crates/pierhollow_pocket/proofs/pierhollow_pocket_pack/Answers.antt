@@ -1,0 +1,6 @@
+-- `pierhollow_pocket::pierhollow_pocket_pack` meets its contract. Assumes nothing.
+use Rattle.telling.proofs.Telling.{told}
+use Rattle.pierhollow_pocket.proofs.pierhollow_pocket_pack.Goals as goal
+
+pub returns : goal.returns
+returns c = told c.pocket_pack.ensures c.packed.ensures

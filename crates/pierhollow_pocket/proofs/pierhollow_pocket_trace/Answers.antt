@@ -1,0 +1,6 @@
+-- `pierhollow_pocket::pierhollow_pocket_trace` meets its contract. Assumes nothing.
+use Rattle.telling.proofs.Telling.{told}
+use Rattle.pierhollow_pocket.proofs.pierhollow_pocket_trace.Goals as goal
+
+pub returns : goal.returns
+returns c = told c.pocket_trace.ensures c.traced.ensures

@@ -1,0 +1,43 @@
+use Prim.Native.Nat.{◌-◌}
+use native.Mathlib.Omega.{arith}
+use Rattle.table.specs.Table.{table, look}
+use Rattle.reach.proofs.Laws.{queue_none, walk_first, next_state, walk_more, walk_full, walk-all}
+use Rattle.reach.proofs.walk.Goals as goal
+
+pub meet-met-requires : goal.meet-met-requires
+meet-met-requires c =
+    let pre = c.requires in
+    (queue_none _ _ pre.codes_long pre.fresh, omega (arith, pre.begins, pre.few))
+
+pub loop-i-init : goal.loop-i-init
+loop-i-init c =
+    let a = c.args in
+    rw (← walk_first (look (table a.targets.now a.labels.now)) 64 a.start a.codes.now) c.meet-met.ensures
+
+-- the place that is visited is below 256
+pub bounds-codes-i : goal.bounds-codes-i
+bounds-codes-i c = omega (arith, c.loop-i-test.true, c.loop-i.invariant.queue.most)
+
+pub visit-met-requires : goal.visit-met-requires
+visit-met-requires c =
+    let pre = c.requires in
+    let low = next_state _ _ _ _ _ pre _ _ _ _ c.loop-i.invariant c.loop-i-test.true in
+    let same = c.wide.ensures in (
+      c.loop-i.invariant.queue,
+      record {
+        targets_long = omega (arith, low, same, pre.rows.targets_long);
+        labels_long = omega (arith, low, same, pre.rows.labels_long);
+      },
+    )
+
+pub loop-i-preserved : goal.loop-i-preserved
+loop-i-preserved c =
+    let pre = c.requires in
+    walk_more _ _ _ _ _ pre c.loop-i.invariant c.loop-i-test.true c.wide.ensures c.visit-met.ensures
+
+pub returns-then-met-n : goal.returns-then-met-n
+returns-then-met-n c =
+    walk_full _ _ _ _ _ c.requires c.loop-i.invariant c.loop-i-test.true c.if-met-n.true
+
+pub returns : goal.returns
+returns c = walk-all _ _ _ _ _ c.requires c.loop-i.invariant c.loop-i-test.false

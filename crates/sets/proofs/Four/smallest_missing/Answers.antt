@@ -1,0 +1,28 @@
+use Prim.Native.Nat.{◌-◌}
+use borrow.Author.Rules.{rules}
+use native.Mathlib.Omega.{arith}
+use mathlib.Core.Path.{◌≡◌}
+use lib.ListN.{length}
+use Rattle.sets.proofs.FourLaws.{full_more, missing_here, missing_behind}
+use Rattle.sets.proofs.Four.smallest_missing.Goals as goal
+
+pub loop-w-init : goal.loop-w-init
+loop-w-init c = (omega arith, λ j h. absurd (omega arith))
+
+pub overflow_add-result : goal.overflow_add-result
+overflow_add-result c = omega (arith, c.lowest.ensures.0)
+
+pub returns-then-free-gt0 : goal.returns-then-free-gt0
+returns-then-free-gt0 c =
+    let low = c.lowest.ensures.0 in
+    (omega (arith, low), missing_here _ c.loop-w.w _ c.loop-w.invariant.1 c.others-free.ensures _ low c.lowest.ensures.1)
+
+pub loop-w-preserved : goal.loop-w-preserved
+loop-w-preserved c =
+    (omega arith, full_more _ c.loop-w.w _ c.loop-w.invariant.1 c.others-free.ensures (omega arith))
+
+pub returns : goal.returns
+returns c =
+    let long : length c.args.self.words ≡ 4 = search rules in
+    let all : c.loop-w.w ≡ 4 = omega (arith, c.loop-w.invariant.0) in
+    (omega arith, missing_behind _ long (rw all at c.loop-w.invariant.1))
