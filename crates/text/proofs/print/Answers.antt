@@ -11,4 +11,4 @@ returns-then-room-bytes c = let a = c.args in printed_short a.bytes.now a.room.n
 pub returns : goal.returns
 returns c =
     let a = c.args in
-    printed_whole a.bytes.now a.room.now c.put.result c.put.new.0 (omega arith) (c.put.ensures.1 ∙ zero-add _) c.put.ensures.0
+    printed_whole a.bytes.now a.room.now c.put.result c.put.new.room (omega arith) (c.put.ensures.1 ∙ zero-add _) c.put.ensures.0

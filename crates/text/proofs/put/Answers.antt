@@ -27,24 +27,3 @@ returns c =
     let a = c.args in
     let all : loop.i ≡ length a.bytes.now = le_antisymm loop.invariant.0 c.loop-i-test.false in
     (loop.invariant.2 ∙ ap (paste a.room.now a.at a.bytes.now) all ∙ wrote_whole a.room.now a.at a.bytes.now, omega (arith, all))
-
-pub bounds-bytes-i : goal.bounds-bytes-i
-bounds-bytes-i c = omega arith
-
-pub overflow_add-room : goal.overflow_add-room
-overflow_add-room c = omega arith
-
-pub bounds-room-at : goal.bounds-room-at
-bounds-room-at c = omega arith
-
-pub overflow_add-i : goal.overflow_add-i
-overflow_add-i c = omega arith
-
-pub loop-i-smaller : goal.loop-i-smaller
-loop-i-smaller c = omega arith
-
-pub overflow_add-result : goal.overflow_add-result
-overflow_add-result c = omega arith
-
-pub shape_of-room : goal.shape_of-room
-shape_of-room c = c.loop-i.invariant.1
