@@ -13,7 +13,7 @@ returns c =
     let a = c.args in
     let rest = pair_line a.c a.d in
     let tail =
-    both c.put_number-second.new.0 c.put_number-second.result (spaced a.b) rest (omega (arith, c.put_number-second.ensures.2, c.put_number-second.auto.0)) c.put_number-third.ensures.0
+    both c.put_number-second.new.room c.put_number-second.result (spaced a.b) rest (omega (arith, c.put_number-second.ensures.2, c.put_number-second.auto.room)) c.put_number-third.ensures.0
     c.put_number-third.ensures.1 c.put_two.ensures.0 c.put_two.ensures.1 in
     let done = both a.room.now 0 (spaced a.a) (spaced a.b ++ rest) (omega arith) c.put_number-second.ensures.0 c.put_number-second.ensures.1 tail.0 tail.1 in
     (done.0, done.1 ∙ zero-add _, omega (arith, c.put_number-second.ensures.2, c.put_number-third.ensures.2, c.put_two.ensures.2))

@@ -9,12 +9,11 @@ use Rattle.lines.proofs.put_state.Goals as goal
 
 pub returns-then-new-eq65535 : goal.returns-then-new-eq65535
 returns-then-new-eq65535 c =
-    let number = number_put put in
     let a = c.args in
     let line =
-    both a.room.now a.at (spaced a.s) (dash ++ newline) (omega arith) number.put-number.ensures.0 number.put-number.ensures.1 c.put.ensures.0 c.put.ensures.1 in
-    let done = same a.room.now a.at (dropped_line a.s a.new number.before.before.if1.taken) line.0 line.1 in
-    (done.0, done.1, omega (arith, number.put-number.ensures.2, c.put.ensures.1))
+    both a.room.now a.at (spaced a.s) (dash ++ newline) (omega arith) c.put_number-behind.ensures.0 c.put_number-behind.ensures.1 c.put.ensures.0 c.put.ensures.1 in
+    let done = same a.room.now a.at (dropped_line a.s a.new c.if-new-eq65535.true) line.0 line.1 in
+    (done.0, done.1, omega (arith, c.put_number-behind.ensures.2, c.put.ensures.1))
 
 pub returns : goal.returns
 returns c =

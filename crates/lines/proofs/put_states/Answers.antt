@@ -1,4 +1,5 @@
 use mathlib.Core.Path.{◌≡◌, refl, ap, ◌∙◌}
+use mathlib.Core.List.{[]}
 use Prim.Native.Nat.{ℕ, ◌-◌}
 use native.Mathlib.Nat.{le_antisymm}
 use native.Mathlib.Omega.{arith}
@@ -21,7 +22,7 @@ loop-i-preserved c =
     let line =
     both a.room.now a.at (number_lines 0 (take loop.i ks)) (number_line loop.i (get_or ks loop.i 0)) (omega arith) loop.invariant.3 loop.invariant.4 c.put_state-end.ensures.0 c.put_state-end.ensures.1 in
     let done = same a.room.now a.at (states_more ks loop.i c.loop-i-test.true) line.0 line.1 in
-    (omega arith, omega (arith, c.put_state-end.ensures.2), c.put_state-end.auto.0 ∙ loop.invariant.2, done.0, done.1)
+    (omega arith, omega (arith, c.put_state-end.ensures.2), c.put_state-end.auto.room ∙ loop.invariant.2, done.0, done.1)
 
 pub returns : goal.returns
 returns c =
@@ -32,21 +33,3 @@ returns c =
     let is = ap (λ (k : ℕ). number_lines 0 (take k ks)) all ∙ ap (number_lines 0) (take-length ks) in
     let done = same a.room.now a.at is loop.invariant.3 loop.invariant.4 in
     (done.0, done.1, omega (arith, all, loop.invariant.1))
-
-pub offset_bounds-numbers-i : goal.offset_bounds-numbers-i
-offset_bounds-numbers-i c = omega arith
-
-pub bounds-numbers-i : goal.bounds-numbers-i
-bounds-numbers-i c = omega arith
-
-pub put_state-end-requires : goal.put_state-end-requires
-put_state-end-requires c = omega arith
-
-pub overflow_add-i : goal.overflow_add-i
-overflow_add-i c = omega arith
-
-pub loop-i-smaller : goal.loop-i-smaller
-loop-i-smaller c = omega arith
-
-pub shape_of-room : goal.shape_of-room
-shape_of-room c = c.loop-i.invariant.2
