@@ -1,5 +1,5 @@
 use mathlib.Core.Path.{◌≡◌}
-use Prim.Native.Nat.{ℕ, ◌*◌, ◌-◌, ◌%◌, ◌^◌, ◌<◌}
+use Prim.Native.Nat.{ℕ, ◌*◌, ◌%◌, ◌^◌, ◌<◌}
 use native.Mathlib.Nat.{lt_of_lt_of_le, mod-lt}
 use native.Mathlib.Omega.{arith}
 use lib.ListN.{length-set}
@@ -40,7 +40,7 @@ loop-i-preserved c =
     (parts c))
 
 pub returns : goal.returns
-returns c = (c.loop-i.invariant.made, c.loop-i.invariant.few)
+returns c = record { fields = c.loop-i.invariant.made; count = c.loop-i.invariant.few }
 
 pub nonzero_rem-out : goal.nonzero_rem-out
 nonzero_rem-out c = rw (low c) (pow_pos (width c))

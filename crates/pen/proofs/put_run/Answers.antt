@@ -1,6 +1,6 @@
 use mathlib.Core.Path.{◌≡◌, ◌∙◌}
-use mathlib.Core.List.{◌∷◌, ◌++◌}
-use Prim.Native.Nat.{◌+◌, ◌-◌, ◌^◌}
+use mathlib.Core.List.{[], ◌∷◌, ◌++◌}
+use Prim.Native.Nat.{◌+◌, ◌^◌}
 use native.Mathlib.Nat.{le_antisymm}
 use native.Mathlib.Numerals.{add-one}
 use native.Mathlib.Omega.{arith}
@@ -14,7 +14,7 @@ pub loop-i-init : goal.loop-i-init
 loop-i-init c = (omega arith, c.begin-pen.ensures)
 
 pub overflow_cast-values : goal.overflow_cast-values
-overflow_cast-values c = record { fits = omega (arith, c.shared_slice_known-in-loop-i-1.given c.loop-i.i) }
+overflow_cast-values c = record { fits = omega arith }
 
 pub push-pen-requires : goal.push-pen-requires
 push-pen-requires c =
@@ -38,7 +38,7 @@ loop-i-preserved c =
     (omega arith, rw (← replicate-append-replicate i 1 a.width, next) (drawn-behind loop.invariant.1 c.push-pen.ensures))
 
 pub shape_of-s : goal.shape_of-s
-shape_of-s c = c.finish.auto.0 ∙ drawn-length c.loop-i.invariant.1
+shape_of-s c = c.finish.auto.s ∙ drawn-length c.loop-i.invariant.1
 
 pub returns : goal.returns
 returns c =
