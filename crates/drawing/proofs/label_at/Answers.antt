@@ -21,8 +21,8 @@ there : (c : Else-not-stands) → c.args.at + 8 ≤ length c.args.text.now
 there c =
     omega (arith, word c, matched-inside c.args.text.now c.args.at label_word c.requires)
 
-pub overflow_add-result-then-value-at : goal.overflow_add-result-then-value-at
-overflow_add-result-then-value-at c =
+pub overflow_add-result : goal.overflow_add-result
+overflow_add-result c =
     omega (arith, c.matched.ensures, matched-inside c.args.text.now c.args.at label_word c.requires)
 
 pub returns-then-not-stands : goal.returns-then-not-stands
@@ -37,7 +37,7 @@ returns-then-value-at c =
 
 pub overflow_add-result-then-not-stands-2 : goal.overflow_add-result-then-not-stands-2
 overflow_add-result-then-not-stands-2 c =
-    omega (arith, c.matched-then-not-stands-2.ensures, matched-inside c.args.text.now c.number_at-value.result.end line_end ((let it : c.number_at-value.result.end ≤ length c.args.text.now = rw c.number_at-value.ensures.0 (number-inside _ _ (there c)) in it)))
+    omega (arith, c.matched-then-not-stands-2.ensures, matched-inside c.args.text.now c.number_at-value.result.end line_end ((let it : c.number_at-value.result.end ≤ length c.args.text.now = rw c.number_at-value.ensures.0 (number-inside _ _ (there (goal.at.overflow_add-result-then-not-stands-2 c).Else-not-stands)) in it)))
 
 pub returns-then-not-stands-2 : goal.returns-then-not-stands-2
 unfolding labelled_at
@@ -55,3 +55,10 @@ unfolding labelled_at
 returns c =
     let close : matched c.args.text.now c.number_at-value.result.end line_end ≡ 3 = found c.stands-2.ensures c.if-not-stands-2.false in
     rw (word (goal.at.returns c).Else-not-stands, ← c.number_at-value.ensures.0, ne_eqb _ _ c.if-value-at.false, close)
+
+pub stands-requires-2 : goal.stands-requires-2
+stands-requires-2 c = rw c.number_at-value.ensures.0 (number-inside _ _ (there (goal.at.stands-requires-2 c).Else-not-stands))
+
+pub matched-requires-then-not-stands-2 : goal.matched-requires-then-not-stands-2
+matched-requires-then-not-stands-2 c =
+    rw c.number_at-value.ensures.0 (number-inside _ _ (there (goal.at.matched-requires-then-not-stands-2 c).Else-not-stands))

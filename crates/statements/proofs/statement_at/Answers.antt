@@ -28,7 +28,7 @@ some c = a_number _ _ c.digit_at.ensures.0 c.if-digit_at-gt9.false
 
 pub returns-then-digit_at-gt9 : goal.returns-then-digit_at-gt9
 unfolding statement_at
-returns-then-digit_at-gt9 c = rw (no_number _ _ c.digit_at.ensures.0 c.if-digit_at-gt9.true) c.??Closing-at.ensures
+returns-then-digit_at-gt9 c = rw (no_number _ _ c.digit_at.ensures.0 c.if-digit_at-gt9.true) c.closing_at.ensures
 
 -- what stands behind the number decides
 statement_is : (c : After-begins_state-state) → let a = c.args in
