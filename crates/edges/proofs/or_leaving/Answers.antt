@@ -9,4 +9,4 @@ use Rattle.edges.proofs.or_leaving.Goals as goal
 pub returns : goal.returns
 returns c =
     ap fault_of c.faulty.ensures
-    ∙ sym (ap (λ (v : Verdict). or_else (fault_of v) (some (record { number = 17; place = c.args.place }))) c.enum_told-1.given.1)
+    ∙ sym (ap (λ (v : Verdict). or_else (fault_of v) (some (record { number = 17; place = c.args.place }))) c.in-Faultless.is)
