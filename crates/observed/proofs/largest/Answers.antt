@@ -1,5 +1,4 @@
 use mathlib.Core.Path.{◌≡◌, sym, ◌∙◌}
-use mathlib.Core.Logic.{⊎_elim}
 use Prim.Native.Nat.{◌-◌}
 use native.Mathlib.Omega.{arith}
 use borrow.Author.Tests.{lt-ltb, le-ltb}
@@ -7,6 +6,7 @@ use lib.ListN.{get_or}
 use Rattle.observed.specs.Observed.{larger}
 use Rattle.observed.proofs.Laws.{largest_start, largest_next, largest_end}
 use Rattle.observed.proofs.largest.Goals as goal
+use Rattle.observed.proofs.largest.Goals.{then-most-value, else-most-value}
 
 pub loop-i-init : goal.loop-i-init
 loop-i-init c = (omega arith, largest_start c.args.values.now)
@@ -17,7 +17,10 @@ loop-i-preserved c =
     let values = c.args.values.now in
     let value = get_or values loop.i 0 in
     let most : c.if-most-value.most ≡ larger loop.most value =
-    ⊎_elim (λ w. w.1 ∙ rw (lt-ltb loop.most value w.0.taken)) (λ w. w.1 ∙ rw (le-ltb loop.most value w.0.left)) c.if-most-value.branch in
+    elim c.if-most-value.branch [
+      | then-most-value w ↦ w.most-is ∙ rw (lt-ltb loop.most value w.if-most-value.true)
+      | else-most-value w ↦ w.most-is ∙ rw (le-ltb loop.most value w.if-most-value.false)
+    ] in
     (omega arith, loop.invariant.1 ∙ largest_next values loop.i loop.most (omega arith) ∙ rw most)
 
 pub returns : goal.returns

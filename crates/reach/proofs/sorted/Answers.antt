@@ -1,11 +1,11 @@
 use mathlib.Core.Path.{◌≡◌, ap, ◌∙◌}
-use mathlib.Core.Logic.{⊎_elim}
 use Prim.Native.Nat.{◌-◌}
 use native.Mathlib.Nat.{le_antisymm}
 use native.Mathlib.Omega.{arith}
 use Rattle.reach.specs.Walking.{those}
 use Rattle.reach.proofs.Laws.{numbered, sorting_begun, sorting_more, sorting_skip}
 use Rattle.reach.proofs.sorted.Goals as goal
+use Rattle.reach.proofs.sorted.Goals.{then-numbers-s, else-numbers-s}
 
 pub loop-s-init : goal.loop-s-init
 loop-s-init c = sorting_begun _ _ c.requires.1
@@ -14,10 +14,10 @@ pub loop-s-preserved : goal.loop-s-preserved
 loop-s-preserved c =
     let loop = c.loop-s in
     let here = c.loop-s-test.true in
-    ⊎_elim
-    (λ w. rw (w.1, w.2) (sorting_more loop.invariant here c.requires.0 w.0.taken))
-    (λ w. rw (w.1, w.2) (sorting_skip loop.invariant here w.0.left))
-    c.if-numbers-s.branch
+    elim c.if-numbers-s.branch [
+      | then-numbers-s w ↦ rw (w.numbers-is, w.k-is) (sorting_more loop.invariant here c.requires.0 w.if-numbers-s.true)
+      | else-numbers-s w ↦ rw (w.numbers-is, w.k-is) (sorting_skip loop.invariant here w.if-numbers-s.false)
+    ]
 
 pub returns : goal.returns
 returns c =

@@ -39,10 +39,10 @@ loop-rest-preserved c =
     let T = (table c.args.targets.now c.args.labels.now) in
     let edge : look T c.args.s y ≡ some c.target.result =
     look_some T c.args.s y low.0 (from-holds loop.invariant.from y low.1.there) ∙ ap some (sym c.target.ensures.0) in
-    visiting_more loop.invariant ((let it : (c : tie.Start invariant-loop decreases-loop) (j : ℕ) → holds (at c.args.labels.now c.args.s) j ≡ false → look ((table c.args.targets.now c.args.labels.now)) c.args.s j ≡ none = λ j q. look_none ((table c.args.targets.now c.args.labels.now)) c.args.s j q in it)) y _ low.0 low.1 edge c.meet-count.ensures (λ j. c.without_lowest-rest.ensures.1 _ j low.1)
+    visiting_more loop.invariant (look_none T c.args.s) y _ low.0 low.1 edge c.meet-count.ensures (λ j. c.without_lowest-rest.ensures.1 _ j low.1)
 
 pub returns : goal.returns
 returns c =
     let loop = c.loop-rest in
     let none_left : loop.rest ≡ 0 = omega (arith, c.loop-rest-test.false) in
-    visiting_ended loop.invariant ((let it : (c : tie.Start invariant-loop decreases-loop) (j : ℕ) → holds (at c.args.labels.now c.args.s) j ≡ false → look ((table c.args.targets.now c.args.labels.now)) c.args.s j ≡ none = λ j q. look_none ((table c.args.targets.now c.args.labels.now)) c.args.s j q in it)) none_left
+    visiting_ended loop.invariant (look_none (table c.args.targets.now c.args.labels.now) c.args.s) none_left

@@ -22,8 +22,8 @@ loop-rest-preserved c =
     let loop = c.loop-rest in
     let lowest = c.lowest-y.ensures in
     let a = c.args in
-    giving_more a.targets.now a.from a.to _ _ loop.targets loop.rest c.without_lowest-rest.result c.lowest-y.result loop.invariant c.requires.0
-    (omega (arith, c.requires.1.1.targets_long)) lowest.0 lowest.1.there (λ j. c.without_lowest-rest.ensures.1 _ j lowest.1)
+    giving_more a.targets.now a.from a.to _ _ loop.targets loop.rest c.without_lowest-rest.result c.lowest-y.result loop.invariant c.requires.fact
+    (omega (arith, c.requires.rows.1.targets_long)) lowest.0 lowest.1.there (λ j. c.without_lowest-rest.ensures.1 _ j lowest.1)
 
 pub shape_of-targets : goal.shape_of-targets
 shape_of-targets c = c.loop-rest.invariant.same_length
@@ -34,7 +34,7 @@ returns c =
     let a = c.args in
     let none_left : loop.rest ≡ 0 = omega (arith, c.loop-rest-test.false) in
     record {
-      edges = look_gave (table a.targets.now a.labels.now) a.from a.to _ c.requires.0 c.requires.1.1 c.joined.ensures loop.targets
+      edges = look_gave (table a.targets.now a.labels.now) a.from a.to _ c.requires.fact c.requires.rows.1 c.joined.ensures loop.targets
           (rw none_left at loop.invariant);
       rows = record { targets_same = loop.invariant.same_length; labels_same = simp length-set };
     }
