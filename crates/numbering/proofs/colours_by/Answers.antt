@@ -13,7 +13,7 @@ loop-k-init c = (omega arith, refl, refl)
 
 pub bounds-colours-wide : goal.bounds-colours-wide
 bounds-colours-wide c =
-    omega (arith, c.wide.ensures, c.requires.1 c.loop-k.k c.loop-k-test.true)
+    omega (arith, c.wide.ensures, c.requires.by_index c.loop-k.k c.loop-k-test.true)
 
 pub loop-k-preserved : goal.loop-k-preserved
 loop-k-preserved c =
@@ -22,7 +22,7 @@ loop-k-preserved c =
     let hue : ℕ → ℕ = λ i. at a.colours.now (at a.order.now i) in (
       omega arith,
       length-set loop.hues loop.k _ ∙ loop.invariant.1,
-      laid_more hue a.hues.now loop.hues loop.k _ (omega (arith, c.loop-k-test.true, c.requires.0.0)) loop.invariant.2 (ap (at a.colours.now) c.wide.ensures),
+      laid_more hue a.hues.now loop.hues loop.k _ (omega (arith, c.loop-k-test.true, c.requires.order_in_bounds.0)) loop.invariant.2 (ap (at a.colours.now) c.wide.ensures),
     )
 
 pub returns : goal.returns

@@ -1,5 +1,4 @@
 use mathlib.Core.Path.{◌≡◌, ap, ◌∙◌}
-use mathlib.Core.Logic.{⊎_elim}
 use Prim.Native.Nat.{◌-◌, ◌≤◌, ◌<◌}
 use native.Mathlib.Nat.{le_antisymm}
 use native.Mathlib.Omega.{arith}
@@ -10,7 +9,7 @@ use Rattle.meaning.specs.Classes.{named, classes}
 use Rattle.numbering.specs.Names.{new_number}
 use Rattle.numbering.proofs.Laws.{name_low, laid-all, numbering_begins, numbering_own, numbering_none, numbering_other}
 use Rattle.numbering.proofs.numbered.Goals as goal
-use Rattle.numbering.proofs.numbered.Goals.{Else-name}
+use Rattle.numbering.proofs.numbered.Goals.{Else-name, then-name-s, else-name-s+then-name, else-name-s+else-name}
 
 -- a state that does not name its class stands behind the one that does
 low : (c : Else-name) →
@@ -24,7 +23,7 @@ offset_bounds-list-wide c = omega (arith, low (goal.at.offset_bounds-list-wide c
 
 pub bounds-list-wide : goal.bounds-list-wide
 bounds-list-wide c =
-    omega (arith, low (goal.at.bounds-list-wide c).Else-name, c.wide.ensures, c.loop-s.invariant.1.List-same)
+    omega (arith, low (goal.at.bounds-list-wide c).Else-name, c.wide.ensures, c.loop-s.invariant.1.list_same)
 
 pub loop-s-preserved : goal.loop-s-preserved
 loop-s-preserved c =
@@ -32,13 +31,12 @@ loop-s-preserved c =
     let pre = c.requires in
     let taken : loop.s < c.args.n = omega (arith, c.loop-s-test.true, loop.invariant.0) in (
       omega arith,
-      ⊎_elim
-          (λ v. rw (v.1, v.2, v.3) (numbering_own _ _ pre.0 _ _ _ _ _ _ loop.invariant.1 taken pre.1 pre.2 v.0.taken))
-          (⊎_elim
-          (λ v. rw (v.2, v.3, v.4) (numbering_none _ _ pre.0 _ _ _ _ _ _ loop.invariant.1 taken pre.1 v.1.taken))
-          (λ v. rw (v.4, v.5, v.6, v.2.ensures)
-          (numbering_other _ _ pre.0 _ _ _ _ _ _ loop.invariant.1 taken pre.1 v.0.left v.1.left)))
-          c.if-name-s.branch,
+      elim c.if-name-s.branch [
+        | then-name-s v ↦ rw (v.list-is, v.order-is, v.k-is) (numbering_own _ _ pre.0 _ _ _ _ _ _ loop.invariant.1 taken pre.1 pre.2 v.if-name-s.true)
+        | else-name-s+then-name v ↦ rw (v.list-is, v.order-is, v.k-is) (numbering_none _ _ pre.0 _ _ _ _ _ _ loop.invariant.1 taken pre.1 v.if-name.true)
+        | else-name-s+else-name v ↦ rw (v.list-is, v.order-is, v.k-is, v.wide.ensures)
+            (numbering_other _ _ pre.0 _ _ _ _ _ _ loop.invariant.1 taken pre.1 v.if-name-s.false v.if-name.false)
+      ],
     )
 
 pub returns : goal.returns
@@ -49,10 +47,11 @@ returns c =
     let a = c.args in
     let P = take a.n a.names.now in
     let all : loop.s ≡ a.n = le_antisymm loop.invariant.0 c.loop-s-test.false in
-    let counted : loop.k ≡ classes a.n P = r.counted ∙ ap (count (named P)) all in (
-      laid-all (new_number P) a.list.now loop.list loop.s a.n r.list_is all,
-      (counted, laid-all (name_of a.n P) a.order.now loop.order loop.k (classes a.n P) r.order_is counted),
-    )
+    let counted : loop.k ≡ classes a.n P = r.counted ∙ ap (count (named P)) all in record {
+      list = laid-all (new_number P) a.list.now loop.list loop.s a.n r.list_is all;
+      count = counted;
+      names = laid-all (name_of a.n P) a.order.now loop.order loop.k (classes a.n P) r.order_is counted;
+    }
 
 pub loop-s-init : goal.loop-s-init
 loop-s-init c = (omega arith, numbering_begins _ _ _ _)
@@ -70,7 +69,7 @@ pub overflow_add-k : goal.overflow_add-k
 overflow_add-k c = omega arith
 
 pub shape_of-list : goal.shape_of-list
-shape_of-list c = c.loop-s.invariant.1.List-same
+shape_of-list c = c.loop-s.invariant.1.list_same
 
 pub shape_of-order : goal.shape_of-order
 shape_of-order c = c.loop-s.invariant.1.order_same
