@@ -1,5 +1,4 @@
 use mathlib.Core.Path.{◌≡◌, refl, sym, ap, ◌∙◌}
-use mathlib.Core.Logic.{⊎_elim}
 use Prim.Native.Nat.{ℕ, ◌+◌, ◌-◌}
 use native.Mathlib.Nat.{le_antisymm}
 use native.Mathlib.Omega.{arith}
@@ -8,6 +7,7 @@ use Rattle.meaning.specs.SearchLaws.{count_hit, count_miss}
 use Rattle.meaning.specs.Search.{count}
 use Rattle.meaning.specs.Classes.{named, classes}
 use Rattle.members.proofs.count.Goals as goal
+use Rattle.members.proofs.count.Goals.{then-names-s, else-names-s}
 
 pub loop-s-init : goal.loop-s-init
 unfolding count
@@ -17,11 +17,11 @@ pub loop-s-preserved : goal.loop-s-preserved
 loop-s-preserved c = let loop = c.loop-s in
     let names = c.args.names.now in (
       omega arith,
-      ⊎_elim
-          (λ w. w.1 ∙ ap (λ (k : ℕ). k + 1) loop.invariant.1 ∙ sym (count_hit (named names) loop.s (eq-eqb _ _ w.0.taken)))
-          (λ w. w.1 ∙ loop.invariant.1 ∙ sym (count_miss (named names) loop.s (ne_eqb _ _ w.0.left)))
-          c.if-names-s.branch,
-      ⊎_elim (λ w. omega (arith, w.1)) (λ w. omega (arith, w.1)) c.if-names-s.branch,
+      elim c.if-names-s.branch [
+        | then-names-s w ↦ w.k-is ∙ ap (λ (k : ℕ). k + 1) loop.invariant.1 ∙ sym (count_hit (named names) loop.s (eq-eqb _ _ w.if-names-s.true))
+        | else-names-s w ↦ w.k-is ∙ loop.invariant.1 ∙ sym (count_miss (named names) loop.s (ne_eqb _ _ w.if-names-s.false))
+      ],
+      elim c.if-names-s.branch [ then-names-s w ↦ omega arith | else-names-s w ↦ omega arith ],
     )
 
 pub returns : goal.returns

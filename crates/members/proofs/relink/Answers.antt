@@ -1,12 +1,13 @@
-use Prim.Native.Nat.{◌<◌, ◌-◌}
+use Prim.Native.Nat.{ℕ, ◌<◌, ◌≤◌}
 use native.Mathlib.Omega.{arith}
-use mathlib.Core.Path.{refl, ◌∙◌}
-use mathlib.Core.Logic.{⊎_elim}
+use mathlib.Core.Path.{◌≡◌, refl, ◌∙◌}
+use mathlib.Core.List.{List}
+use Rattle.meaning.specs.Search.{at}
 use Rattle.members.proofs.Laws.{Hop, at_head, hop}
-use Rattle.members.proofs.Relinking.{relinked_none, relinked_skip, relinked_more, relinked_all}
+use Rattle.members.proofs.Relinking.{Relinked, Joined, relinked_none, relinked_skip, relinked_more, relinked_all}
 use Rattle.members.proofs.Relinking.{joined_none, joined_one}
 use Rattle.members.proofs.relink.Goals as goal
-use Rattle.members.proofs.relink.Goals.{After-wide, After-wide-behind, After-wide-d, In-loop-s}
+use Rattle.members.proofs.relink.Goals.{After-wide-behind, After-wide-d, In-loop-s, then-before, else-before}
 
 pub loop-s-init : goal.loop-s-init
 loop-s-init c =
@@ -36,10 +37,9 @@ name-fits c =
     omega (arith, c.wide-d.ensures, low, inv.0.few)
 
 -- and so has the last member with it
-latest-fits : (c : After-wide) → c.wide.result < 256
-latest-fits c =
-    let low = (c.loop-s.invariant.2.known c.wide-d.result (name-fits c)).before c.if-before.true in
-    omega (arith, c.wide.ensures, low, c.loop-s.invariant.0.few)
+last-fits : {old P next₀ next latest : List ℕ} {n c s : ℕ} → Relinked old P n c next₀ next latest s → n ≤ 256 → s < n → (d : ℕ) → d < 256
+    → (at latest d ≡ 65535 → ⊥) → at latest d < 256
+last-fits r few here d low some = omega (arith, (r.known d low).before some)
 
 pub loop-s-smaller : goal.loop-s-smaller
 loop-s-smaller c = let next = step (goal.at.loop-s-smaller c).After-wide-behind in
@@ -50,12 +50,14 @@ loop-s-preserved c =
     let here = c.loop-s-test.true in
     let inv = c.loop-s.invariant in
     let next = step (goal.at.loop-s-preserved c).After-wide-behind in
-    let joined = ⊎_elim
-    (λ w. joined_one inv.2 w.1.ensures w.2
-    (latest-fits (record { before = record { before = name; if1 = w.0 }; wide3 = w.1 })))
-    (λ w. joined_none inv.2 w.1 w.0.left)
-    c.if-before.branch in
-    let more = relinked_more inv.2 here inv.0.few (inv.1.member here) c.wide-d.ensures (name-fits (goal.at.loop-s-preserved c).After-wide-d) joined in
+    let fits = name-fits (goal.at.loop-s-preserved c).After-wide-d in
+    let joined : Joined c.loop-s.next (at c.loop-s.latest c.wide-d.result) c.loop-s.s c.if-before.next =
+    elim c.if-before.branch [
+      | then-before w ↦ joined_one inv.2 w.wide.ensures w.next-is
+          (rw w.wide.ensures (last-fits inv.2 inv.0.few here c.wide-d.result fits w.if-before.true))
+      | else-before w ↦ joined_none inv.2 w.next-is w.if-before.false
+    ] in
+    let more = relinked_more inv.2 here inv.0.few (inv.1.member here) c.wide-d.ensures fits joined in
     (inv.0, next.stands, relinked_skip more _ (omega (arith, next.after)) (λ x h l. next.gap x (omega arith) l))
 
 pub returns : goal.returns
@@ -78,7 +80,9 @@ pub overflow_cast-next : goal.overflow_cast-next
 overflow_cast-next c = omega (arith, state-fits (goal.at.overflow_cast-next c).In-loop-s)
 
 pub offset_bounds-next-wide : goal.offset_bounds-next-wide
-offset_bounds-next-wide c = omega (arith, latest-fits c)
+offset_bounds-next-wide c =
+    let inv = c.loop-s.invariant in
+    omega (arith, c.wide.ensures, last-fits inv.2 inv.0.few c.loop-s-test.true c.wide-d.result (name-fits (goal.at.offset_bounds-next-wide c).After-wide-d) c.if-before.true)
 
 pub overflow_cast-latest : goal.overflow_cast-latest
 overflow_cast-latest c = omega (arith, state-fits (goal.at.overflow_cast-latest c).In-loop-s)
