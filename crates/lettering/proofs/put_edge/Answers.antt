@@ -18,7 +18,7 @@ pub put_with-target-requires : goal.put_with-target-requires
 put_with-target-requires c =
     let a = c.args in
     let rooms = edge-rooms a.at (edge_of a.edge) (length a.room.now) c.requires.1 in
-    (omega (arith, c.requires.0.target), omega arith, omega (arith, c.put_with-source.auto.0, c.put_with-source.ensures.1, rooms.1))
+    (omega (arith, c.requires.0.target), omega arith, omega (arith, c.put_with-source.auto.room, c.put_with-source.ensures.1, rooms.1))
 
 pub put_with-requires : goal.put_with-requires
 put_with-requires c =
@@ -26,7 +26,7 @@ put_with-requires c =
     let rooms = edge-rooms a.at (edge_of a.edge) (length a.room.now) c.requires.1 in (
       omega (arith, c.requires.0.label),
       omega arith,
-      omega (arith, c.put_with-target.auto.0, c.put_with-source.auto.0, c.put_with-target.ensures.1, c.put_with-source.ensures.1, rooms.2),
+      omega (arith, c.put_with-target.auto.room, c.put_with-source.auto.room, c.put_with-target.ensures.1, c.put_with-source.ensures.1, rooms.2),
     )
 
 pub returns : goal.returns

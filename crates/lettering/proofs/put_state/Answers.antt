@@ -17,7 +17,7 @@ pub put_with-requires : goal.put_with-requires
 put_with-requires c =
     let a = c.args in
     let rooms = state_rooms a.at a.s a.colour (length a.room.now) c.requires.2 in
-    (c.requires.1, omega arith, omega (arith, c.put_with-behind.auto.0, c.put_with-behind.ensures.1, rooms.1))
+    (c.requires.1, omega arith, omega (arith, c.put_with-behind.auto.room, c.put_with-behind.ensures.1, rooms.1))
 
 pub returns : goal.returns
 returns c =

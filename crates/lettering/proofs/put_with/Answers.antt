@@ -14,7 +14,7 @@ put_short-end-requires c =
 pub put-requires : goal.put-requires
 put-requires c =
     let a = c.args in
-    omega (arith, c.put_short-end.auto.0, c.put_short-end.ensures.1, (room_for a.at a.n (length a.room.now) a.word.now c.requires.1 c.requires.2).1)
+    omega (arith, c.put_short-end.auto.room, c.put_short-end.ensures.1, (room_for a.at a.n (length a.room.now) a.word.now c.requires.1 c.requires.2).1)
 
 pub returns : goal.returns
 returns c =

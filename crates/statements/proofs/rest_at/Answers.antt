@@ -9,10 +9,10 @@ pub returns-in-Value : goal.returns-in-Value
 returns-in-Value c =
     let a = c.args in
     c.statement_of.ensures
-    ∙ ap (λ (l : Labelled). statement_of a.state a.source a.target l) (sym c.label-1.given.1 ∙ c.label_at.ensures)
+    ∙ ap (λ (l : Labelled). statement_of a.state a.source a.target l) (sym c.in-Value.is ∙ c.label_at.ensures)
 
 pub returns-in-Outside : goal.returns-in-Outside
 returns-in-Outside c =
     let a = c.args in
-    sym (outside_of a.state a.source a.target c.place-1.given.0.0)
-    ∙ ap (λ (l : Labelled). statement_of a.state a.source a.target l) (sym c.place-1.given.1 ∙ c.label_at.ensures)
+    sym (outside_of a.state a.source a.target c.in-Outside.place)
+    ∙ ap (λ (l : Labelled). statement_of a.state a.source a.target l) (sym c.in-Outside.is ∙ c.label_at.ensures)

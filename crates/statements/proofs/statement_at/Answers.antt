@@ -33,31 +33,32 @@ returns-then-digit_at-gt9 c = rw (no_number _ _ c.digit_at.ensures.0 c.if-digit_
 -- what stands behind the number decides
 statement_is : (c : After-begins_state-state) → let a = c.args in
     let n = c.number_at-first.result in
+    eqb (number_at a.text.now a.at).end a.at ≡ false →
     statement_at a.text.now a.at a.next
     ≡ pick c.begins_state-state.result (state_from a.text.now n.end) (edge_from a.text.now n.end n.value)
 unfolding statement_at
-statement_is c =
-    rw (some c, ← c.number_at-first.ensures.0, ← c.begins_state-state.ensures)
+statement_is c digit =
+    rw (digit, ← c.number_at-first.ensures.0, ← c.begins_state-state.ensures)
 
 pub rest_at-requires : goal.rest_at-requires
 rest_at-requires c =
     target-inside c.args.text.now c.number_at-first.result.end c.begins_state-state.result _ _ (there (goal.at.rest_at-requires c).After-number_at-first)
-    (sym c.target_at-target.ensures ∙ c.target-1.given.1)
+    (sym c.target_at-target.ensures ∙ c.in-Value.is)
 
 pub returns-in-Value : goal.returns-in-Value
 returns-in-Value c =
     let n = c.number_at-first.result in
     c.rest_at.ensures
-    ∙ sym (statement_is (goal.at.returns-in-Value c).After-begins_state-state
+    ∙ sym (statement_is (goal.at.returns-in-Value c).After-begins_state-state (some (goal.at.returns-in-Value c).After-number_at-first)
     ∙ by_target c.args.text.now n.end n.value c.begins_state-state.result _ _
-    (sym c.target_at-target.ensures ∙ c.target-1.given.1))
+    (sym c.target_at-target.ensures ∙ c.in-Value.is))
 
 pub returns-in-Outside : goal.returns-in-Outside
 returns-in-Outside c =
     let n = c.number_at-first.result in
-    sym (statement_is (goal.at.returns-in-Outside c).After-begins_state-state
+    sym (statement_is (goal.at.returns-in-Outside c).After-begins_state-state (some (goal.at.returns-in-Outside c).After-number_at-first)
     ∙ no_target c.args.text.now n.end n.value c.begins_state-state.result _
-    (sym c.target_at-target.ensures ∙ c.target-in-Outside-1.given.1))
+    (sym c.target_at-target.ensures ∙ c.in-Outside.is))
 
 pub begins_state-state-requires : goal.begins_state-state-requires
 begins_state-state-requires c = there c
