@@ -7,8 +7,7 @@ ARCHIVE := target/lib/libpierhollow.a
 .PHONY: run test lib programs tool install bench instructions soak
 
 run:
-	@mkdir -p target
-	@ABOUT='two to three minutes on two cores' .ci/progress target/run.log rt check reduce
+	@.ci/programs reduce
 	@.ci/run-bin target/bin/reduce <"$(FILE)"
 
 test:
@@ -19,8 +18,7 @@ lib:
 	@.ci/lib
 
 programs:
-	@mkdir -p target
-	@.ci/progress target/programs.log rt check reduce shrink trace
+	@.ci/programs reduce shrink trace
 
 # The command pierhollow, in C over the archive: for x86-64 as that is, elsewhere by Debian's cross compiler.
 X86_64_CC := $(if $(filter x86_64,$(shell uname -m)),gcc,x86_64-linux-gnu-gcc -static)
@@ -50,6 +48,5 @@ instructions: lib
 
 # Every file of three bytes through both programs as a pocket file, then random cases for TIME seconds.
 soak:
-	@mkdir -p target
-	@.ci/progress target/soak.log rt check answers
+	@.ci/programs answers
 	@cargo run --release --offline --quiet --manifest-path second/Cargo.toml --bin soak -- $(TIME)
