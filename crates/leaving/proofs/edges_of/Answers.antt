@@ -1,8 +1,10 @@
 use mathlib.Core.Path.{◌≡◌, sym, ap, ◌∙◌}
-use Prim.Native.Nat.{◌+◌, ◌*◌, ◌-◌}
+use mathlib.Core.List.{List}
+use Prim.Native.Nat.{ℕ, ◌+◌, ◌*◌}
 use native.Mathlib.Omega.{arith}
 use Rattle.meaning.specs.Cases.{impossible}
 use Rattle.meaning.specs.Filter.{Edge}
+use Rattle.layout.specs.declared.Profile.{Profile}
 use Rattle.layout.specs.declared.edge.Placed.{Placed}
 use Rattle.layout.specs.Layout.{edge_bits, edges_begin}
 use Rattle.layout.specs.Contents.{values, placed_at, edge_at}
@@ -18,52 +20,52 @@ edge_at-edge-requires c =
     let passed = c.requires.0 in
     (passed.usable, few_states _ _ _ _ passed, omega (arith, passed.few, c.loop-i-test.true))
 
--- TODO place After-struct_known-1 is not offered by Goals
--- the edge that was read
-read : (c : After-struct_known-1) → values c.edge_at-edge.result ≡ nth_edge c.args.p c.args.file.now c.args.n c.loop-i.i
+-- the edge that was read, and where its source stands
+read : (P : Profile) (file : List ℕ) (n i : ℕ) (d : Placed) → d ≡ placed_at P file (edges_begin P n + edge_bits P * i) →
+    values d ≡ nth_edge P file n i
 unfolding edge_at
-read c = ap values c.edge_at-edge.ensures
+read P file n i d is = ap values is
+
+place_is : (P : Profile) (file : List ℕ) (n i : ℕ) (d : Placed) → d ≡ placed_at P file (edges_begin P n + edge_bits P * i) →
+    d.source.place ≡ edges_begin P n + edge_bits P * i
+unfolding placed_at
+place_is P file n i d is = ap (λ (d : Placed). d.source.place) is
 
 pub returns-then-source-state : goal.returns-then-source-state
 returns-then-source-state c =
-    let loop = looped known in
-    let pre = loop.pre in
+    let pre = c.requires in
+    let edge = read c.args.p c.args.file.now c.args.n _ _ c.edge_at-edge.ensures in
     record {
       none_leaves = λ clear _.
-          going_other _ _ _ _ pre.0 _ pre.1 _ _ loop.loop.inv c.loop-i-test.true (λ is. c.if-source-state.true ((let it : c.edge_at-edge.result.source.value ≡ (nth_edge c.args.p c.args.file.now c.args.n c.loop-i.i).source = ap (λ (d : Edge). d.source) (read c) in it) ∙ is)) clear;
+          going_other _ _ _ _ pre.0 _ pre.1 _ _ c.loop-i.invariant c.loop-i-test.true (λ is. c.if-source-state.true (ap (λ (d : Edge). d.source) edge ∙ is)) clear;
       one_leaves = λ clear f z. impossible cc;
     }
 
 pub colour-requires : goal.colour-requires
 colour-requires c =
-    let loop = looped known in
-    let passed = loop.pre.0 in
-    let low = (ends _ _ _ _ passed loop.loop.i c.loop-i-test.true).1 in
-    (passed.usable, omega (arith, few_states _ _ _ _ passed, (let it : c.edge_at-edge.result.target.value ≡ (nth_edge c.args.p c.args.file.now c.args.n c.loop-i.i).target = ap (λ (d : Edge). d.target) (read c) in it)))
-
--- TODO place After-struct_known-1 is not offered by Goals
-place_is : (c : After-struct_known-1) → c.edge_at-edge.result.source.place ≡ edges_begin c.args.p c.args.n + edge_bits c.args.p * c.loop-i.i
-unfolding placed_at
-place_is c = ap (λ (d : Placed). d.source.place) c.edge_at-edge.ensures
+    let passed = c.requires.0 in
+    let edge = read c.args.p c.args.file.now c.args.n _ _ c.edge_at-edge.ensures in
+    let low = (ends _ _ _ _ passed c.loop-i.i c.loop-i-test.true).1 in
+    (passed.usable, omega (arith, few_states _ _ _ _ passed, ap (λ (d : Edge). d.target) edge))
 
 pub returns-then-colour : goal.returns-then-colour
 returns-then-colour c =
-    let loop = looped known in
-    let pre = loop.pre in
+    let pre = c.requires in
+    let edge = read c.args.p c.args.file.now c.args.n _ _ c.edge_at-edge.ensures in
     record {
       none_leaves = λ clear z. let both = sym c.leaving_at.ensures ∙ z in impossible cc;
       one_leaves = λ clear f z.
-          going_leaves _ _ _ _ pre.0 _ pre.1 _ _ loop.loop.inv c.loop-i-test.true (sym ((let it : c.edge_at-edge.result.source.value ≡ (nth_edge c.args.p c.args.file.now c.args.n c.loop-i.i).source = ap (λ (d : Edge). d.source) (read c) in it)) ∙ c.if-source-state.false) pre.2
-          (λ is. c.if-colour.true (c.colour.ensures ∙ rw ((let it : c.edge_at-edge.result.target.value ≡ (nth_edge c.args.p c.args.file.now c.args.n c.loop-i.i).target = ap (λ (d : Edge). d.target) (read c) in it)) is)) clear
-          ∙ sym (rw (place_is (goal.at.returns-then-colour c).After-struct_known-1) at c.leaving_at.ensures) ∙ z;
+          going_leaves _ _ _ _ pre.0 _ pre.1 _ _ c.loop-i.invariant c.loop-i-test.true (sym (ap (λ (d : Edge). d.source) edge) ∙ c.if-source-state.false) pre.2
+          (λ is. c.if-colour.true (c.colour.ensures ∙ rw (ap (λ (d : Edge). d.target) edge) is)) clear
+          ∙ sym (rw (place_is c.args.p c.args.file.now c.args.n _ _ c.edge_at-edge.ensures) at c.leaving_at.ensures) ∙ z;
     }
 
 pub loop-i-preserved : goal.loop-i-preserved
 loop-i-preserved c =
-    let loop = looped known in
-    let pre = loop.pre in
-    going_on _ _ _ _ pre.0 _ pre.1 _ _ loop.loop.inv c.loop-i-test.true (sym ((let it : c.edge_at-edge.result.source.value ≡ (nth_edge c.args.p c.args.file.now c.args.n c.loop-i.i).source = ap (λ (d : Edge). d.source) (read c) in it)) ∙ c.if-source-state.false) pre.2
-    (rw (← (let it : c.edge_at-edge.result.target.value ≡ (nth_edge c.args.p c.args.file.now c.args.n c.loop-i.i).target = ap (λ (d : Edge). d.target) (read c) in it)) (sym c.colour.ensures ∙ c.if-colour.false))
+    let pre = c.requires in
+    let edge = read c.args.p c.args.file.now c.args.n _ _ c.edge_at-edge.ensures in
+    going_on _ _ _ _ pre.0 _ pre.1 _ _ c.loop-i.invariant c.loop-i-test.true (sym (ap (λ (d : Edge). d.source) edge) ∙ c.if-source-state.false) pre.2
+    (rw (← ap (λ (d : Edge). d.target) edge) (sym c.colour.ensures ∙ c.if-colour.false))
 
 pub returns : goal.returns
 returns c =

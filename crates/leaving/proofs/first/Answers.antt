@@ -1,12 +1,11 @@
 use mathlib.Core.Path.{sym, ap, ◌∙◌}
-use mathlib.Core.Logic.{⊎_elim}
-use Prim.Native.Nat.{ℕ, ◌+◌, ◌*◌, ◌-◌, ◌≤◌}
+use Prim.Native.Nat.{ℕ, ◌+◌, ◌*◌, ◌≤◌}
 use native.Mathlib.Omega.{arith}
 use Rattle.bits.specs.Bits.{field}
 use Rattle.edges.specs.Walk.{fault_of}
 use Rattle.leaving.proofs.Laws.{few_states, none_left, none_begun, none_eight, none_other}
 use Rattle.leaving.proofs.first.Goals as goal
-use Rattle.leaving.proofs.first.Goals.{In-loop-s}
+use Rattle.leaving.proofs.first.Goals.{In-loop-s, then-colour+in-Faultless, else-colour}
 
 pub loop-s-init : goal.loop-s-init
 loop-s-init c = none_begun _ _ _ _ c.requires.0 _ c.requires.1
@@ -34,9 +33,8 @@ edges_of-verdict-requires c =
 
 pub returns-in_default : goal.returns-in_default
 returns-in_default c =
-    let loop = looped c in
-    let is = ap fault_of c.enum_told-in_default-1.given.1 in
-    is ∙ sym (c.edges_of-verdict.ensures.one_leaves loop.loop.inv _ is)
+    let is = ap fault_of c.in_default.is in
+    is ∙ sym (c.edges_of-verdict.ensures.one_leaves c.loop-s.invariant _ is)
 
 pub overflow_add-s : goal.overflow_add-s
 overflow_add-s c = omega (arith, low (goal.at.overflow_add-s c).In-loop-s)
@@ -46,20 +44,20 @@ loop-s-smaller-then-some_is_63 c = omega (arith, c.loop-s-test.true)
 
 pub loop-s-preserved-then-some_is_63 : goal.loop-s-preserved-then-some_is_63
 loop-s-preserved-then-some_is_63 c =
-    let loop = looped c in
-    let pre = loop.pre in
-    ⊎_elim (λ came. came.1.ensures.none_leaves loop.loop.inv (ap fault_of came.3.given.1))
-    (λ other. none_other _ _ _ _ pre.0 _ pre.1 _ loop.loop.inv (λ is. other.left (c.colour.ensures ∙ is))) c.if-colour.branch
+    let pre = c.requires in
+    elim c.if-colour.branch [
+      | then-colour+in-Faultless w ↦ w.edges_of-verdict.ensures.none_leaves c.loop-s.invariant (ap fault_of w.in-Faultless.is)
+      | else-colour w ↦ none_other _ _ _ _ pre.0 _ pre.1 _ c.loop-s.invariant (λ is. w.if-colour.false (c.colour.ensures ∙ is))
+    ]
 
 pub overflow_add-s-else-some_is_63 : goal.overflow_add-s-else-some_is_63
 overflow_add-s-else-some_is_63 c = omega (arith, low (goal.at.overflow_add-s-else-some_is_63 c).In-loop-s)
 
 pub loop-s-preserved : goal.loop-s-preserved
 loop-s-preserved c =
-    let loop = looped looked in
-    let start = started loop in
-    none_eight _ _ _ _ start.pre.0 _ start.pre.1 _ _ loop.loop.inv
-    (c.get_long.ensures.0 ∙ ap (λ (begin : ℕ). field start.args.file.now (begin + 6 * loop.loop.s) 48) loop.before.header-bits.ensures.0)
+    let pre = c.requires in
+    none_eight _ _ _ _ pre.0 _ pre.1 _ _ c.loop-s.invariant
+    (c.get_long.ensures.0 ∙ ap (λ (begin : ℕ). field c.args.file.now (begin + 6 * c.loop-s.s) 48) c.header_bits-begin.ensures.0)
     (c.some_is_63.ensures c.if-some_is_63.false)
 
 pub returns : goal.returns
