@@ -2,14 +2,13 @@ use Prim.Native.Nat.{◌<◌, ◌-◌}
 use native.Mathlib.Omega.{arith}
 use mathlib.Core.Path.{◌≡◌, sym, ◌∙◌}
 use mathlib.Core.Bool.{false}
-use mathlib.Core.Logic.{⊎_elim}
 use Rattle.meaning.specs.Classes.{parted}
 use Rattle.table.specs.Table.{table}
 use Rattle.conflicts.specs.Conflicts.{clash}
 use Rattle.members.proofs.Laws.{heads}
 use Rattle.pairs.proofs.Laws.{parted_none, parted_pair, parted_own, tried_more, tried_here, tried_all}
 use Rattle.pairs.proofs.first_parted.Goals as goal
-use Rattle.pairs.proofs.first_parted.Goals.{After-wide-c}
+use Rattle.pairs.proofs.first_parted.Goals.{After-wide-c, then-names-c+in_default, else-names-c}
 
 -- the state that is looked at is one of the n
 state-low : (c : After-wide-c) → c.wide-c.result < c.args.n
@@ -27,7 +26,7 @@ pub returns-in-Pair : goal.returns-in-Pair
 returns-in-Pair c =
     let pre = c.requires in
     let here = c.loop-j-test.true in
-    let hit = parted_pair _ _ _ _ _ _ (sym c.enum_told-1.given.1 ∙ c.pair_in-found.ensures) in
+    let hit = parted_pair _ _ _ _ _ _ (sym c.in-Pair.is ∙ c.pair_in-found.ensures) in
     c.wide-c.ensures
     ∙ tried_here _ _ _ _ pre.1 pre.2 _ c.loop-j.invariant.1 here (rw (← c.wide-c.ensures) hit)
 
@@ -37,10 +36,10 @@ loop-j-preserved c =
     let pre = c.requires in (
       omega arith,
       tried_more a.n _ a.names.now a.live.now _ c.wide-c.result c.loop-j.invariant.1 c.wide-c.ensures
-          (⊎_elim {C = parted a.n (clash (table a.targets.now a.labels.now) a.names.now) a.names.now c.wide-c.result ≡ false}
-          (λ v. parted_none _ _ _ _ (sym v.3.given.1 ∙ v.1.ensures))
-          (λ v. parted_own _ _ _ pre.1 _ (state-low (goal.at.loop-j-preserved c).After-wide-c) v.left)
-          c.if-names-c.branch),
+          (elim c.if-names-c.branch [
+            | then-names-c+in_default v ↦ parted_none _ _ _ _ (sym v.in_default.is ∙ v.pair_in-found.ensures)
+            | else-names-c v ↦ parted_own _ _ _ pre.1 _ (state-low (goal.at.loop-j-preserved c).After-wide-c) v.if-names-c.false
+          ]),
     )
 
 pub returns : goal.returns
