@@ -1,14 +1,15 @@
 use Prim.Native.Nat.{◌+◌, ◌-◌}
 use native.Mathlib.Omega.{arith}
 use mathlib.Core.Path.{sym, ap, ◌∙◌}
-use mathlib.Core.Logic.{⊎_elim}
 use borrow.Author.Tests.{not-false}
 use Rattle.sets.specs.Sets.{contains}
+use Rattle.table.specs.Table.{table}
+use Rattle.conflicts.specs.Conflicts.{clash}
 use Rattle.members.proofs.Laws.{Hop, at_head, hop}
 use Rattle.grouping.proofs.Laws.{first_until, next_until}
-use Rattle.grouping.proofs.Laws.{marked_none, marked_skip, marked_calm, marked_again, marked_more, marked_all}
+use Rattle.grouping.proofs.Laws.{Marked, marked_none, marked_skip, marked_calm, marked_again, marked_more, marked_all}
 use Rattle.grouping.proofs.mark.Goals as goal
-use Rattle.grouping.proofs.mark.Goals.{After-wide-t}
+use Rattle.grouping.proofs.mark.Goals.{After-wide-t, then-unmarked+then-conflict, then-unmarked+else-conflict, else-unmarked}
 
 pub loop-t-init : goal.loop-t-init
 loop-t-init c =
@@ -44,14 +45,15 @@ loop-t-preserved c =
     let t = c.loop-t.t in
     let is = c.wide_byte-group.ensures in
     let member = inv.1.member (omega (arith, pre.2.inside)) in
-    let behind = ⊎_elim
-    (λ w. marked_more _ _ _ _ _ _ _ t inv.2 _ _ _ _ w.5 w.3.ensures is.0 is.1 (omega (arith, w.6, w.4.ensures.0))
-    (omega (arith, w.6, w.4.ensures.1)) member (sym w.1.ensures ∙ w.2.taken))
-    (⊎_elim
-    (λ w. marked_calm _ _ _ _ _ _ _ t inv.2 _ _ w.3 w.4 (sym w.1.ensures ∙ w.2.left))
-    (λ w. marked_again _ _ _ _ _ _ _ t inv.2 _ _ w.1 w.2 (rw (← is.0) is.1)
-    (ap (contains c.loop-t.words) (sym is.0) ∙ not-false _ (sym c.unmarked.ensures ∙ w.0.left))))
-    c.if-unmarked.branch in (
+    let a = c.args in
+    let behind : Marked (clash (table a.targets.now a.labels.now) a.names.now) a.names.now a.groups.now a.c a.s c.if-unmarked.words c.if-unmarked.top (t + 1) =
+    elim c.if-unmarked.branch [
+      | then-unmarked+then-conflict w ↦ marked_more _ _ _ _ _ _ _ t inv.2 _ _ _ _ w.words-is w.with.ensures is.0 is.1 (omega (arith, w.top-is, w.larger-top.ensures.0))
+          (omega (arith, w.top-is, w.larger-top.ensures.1)) member (sym w.conflict.ensures ∙ w.if-conflict.true)
+      | then-unmarked+else-conflict w ↦ marked_calm _ _ _ _ _ _ _ t inv.2 _ _ w.words-is w.top-is (sym w.conflict.ensures ∙ w.if-conflict.false)
+      | else-unmarked w ↦ marked_again _ _ _ _ _ _ _ t inv.2 _ _ w.words-is w.top-is (rw (← is.0) is.1)
+          (ap (contains c.loop-t.words) (sym is.0) ∙ not-false _ (sym c.unmarked.ensures ∙ w.if-unmarked.false))
+    ] in (
       next_until _ _ _ _ _ _ next here pre.2.member,
       next.stands,
       marked_skip _ _ _ _ _ _ _ (t + 1) behind _ (omega (arith, next.after)) (λ x h l. next.gap x (omega arith) l),

@@ -1,9 +1,16 @@
-use Prim.Native.Nat.{ℕ, ◌≤◌, ◌<◌, ◌-◌}
+use Prim.Native.Nat.{ℕ, ◌≤◌, ◌<◌}
 use native.Mathlib.Omega.{arith}
+use mathlib.Core.List.{List}
 use mathlib.Core.Path.{◌≡◌, refl, sym, ap, ◌∙◌}
+use lib.ListN.{length}
 use Rattle.meaning.specs.Search.{at}
+use Rattle.reach.specs.Walking.{Rises}
 use Rattle.partition.proofs.Laws.{unlike_more, twin_here}
 use Rattle.partition.proofs.first_like.Goals as goal
+
+-- a state that the list has has a colour
+listed-low : {live : List ℕ} {j : ℕ} → Rises 256 live → j < length live → (k s : ℕ) → k ≤ j → s ≡ at live k → s < 256
+listed-low r l k s h e = omega (arith, e, r.below k (omega (arith, h, l)))
 
 pub loop-i-init : goal.loop-i-init
 loop-i-init c = (omega arith, λ k h. absurd (omega arith))
@@ -11,17 +18,18 @@ loop-i-init c = (omega arith, λ k h. absurd (omega arith))
 pub returns-then-colours-wide : goal.returns-then-colours-wide
 returns-then-colours-wide c =
     let loop = c.loop-i in
-    let start = loop-start wide in
-    let same = ap (at start.args.colours.now) (sym c.wide-in-loop-i.ensures) ∙ c.if-colours-wide.true ∙ (let it : let a = c.args in at a.colours.now c.wide.result ≡ at a.colours.now (at a.live.now a.j) = ap (at c.args.colours.now) c.wide.ensures in it) in
-    λ n r. twin_here _ _ n _ _ r loop.invariant.0 start.pre.0 same loop.invariant.1
+    let hues = at c.args.colours.now in
+    let same = ap hues (sym c.wide-in-loop-i.ensures) ∙ c.if-colours-wide.true ∙ ap hues c.wide.ensures in
+    λ n r. twin_here _ _ n _ _ r loop.invariant.0 c.requires.0 same loop.invariant.1
 
 pub loop-i-preserved : goal.loop-i-preserved
 loop-i-preserved c =
     let loop = c.loop-i in
-    let start = loop-start wide in
-    let hues = at start.args.colours.now in (
+    let a = c.args in
+    let hues = at a.colours.now in (
       omega arith,
-      unlike_more start.args.colours.now start.args.live.now _ _ loop.invariant.1 (λ e. c.if-colours-wide.false (ap hues c.wide-in-loop-i.ensures ∙ e ∙ sym ((let it : let a = c.args in at a.colours.now c.wide.result ≡ at a.colours.now (at a.live.now a.j) = ap (at c.args.colours.now) c.wide.ensures in it)))),
+      unlike_more a.colours.now a.live.now _ _ loop.invariant.1
+          (λ e. c.if-colours-wide.false (ap hues c.wide-in-loop-i.ensures ∙ e ∙ sym (ap hues c.wide.ensures))),
     )
 
 pub returns : goal.returns
@@ -31,7 +39,7 @@ returns c =
     λ n r. twin_here _ _ n _ _ r (omega arith) c.requires.0 refl (rw all at loop.invariant.1)
 
 pub bounds-colours-wide : goal.bounds-colours-wide
-bounds-colours-wide c = (let it : (c : tie.Start invariant-loop decreases-loop) (k s : ℕ) → k ≤ c.args.j → s ≡ at c.args.live.now k → s < 256 = λ k s h e. omega (arith, e, c.requires.1.below k (omega (arith, h, c.requires.0))) in it) _ _ (omega arith) c.wide.ensures
+bounds-colours-wide c = listed-low c.requires.1 c.requires.0 _ _ (omega arith) c.wide.ensures
 
 pub bounds-colours-wide-in-loop-i : goal.bounds-colours-wide-in-loop-i
-bounds-colours-wide-in-loop-i c = (let it : (c : tie.Start invariant-loop decreases-loop) (k s : ℕ) → k ≤ c.args.j → s ≡ at c.args.live.now k → s < 256 = λ k s h e. omega (arith, e, c.requires.1.below k (omega (arith, h, c.requires.0))) in it) _ _ c.loop-i.invariant.0 c.wide-in-loop-i.ensures
+bounds-colours-wide-in-loop-i c = listed-low c.requires.1 c.requires.0 _ _ c.loop-i.invariant.0 c.wide-in-loop-i.ensures

@@ -1,11 +1,12 @@
 use Prim.Native.Nat.{◌+◌, ◌-◌}
 use native.Mathlib.Omega.{arith}
 use mathlib.Core.Path.{refl, ◌∙◌}
-use mathlib.Core.Logic.{⊎_elim}
+use lib.ListN.{set}
+use Rattle.meaning.specs.Search.{at}
 use Rattle.members.proofs.Laws.{Hop, at_head, hop}
-use Rattle.partition.proofs.Laws.{renamed_none, renamed_skip, renamed_new, renamed_again, renamed_as, renamed-all, rounded_by}
+use Rattle.partition.proofs.Laws.{Renamed, renamed_none, renamed_skip, renamed_new, renamed_again, renamed_as, renamed-all, rounded_by}
 use Rattle.partition.proofs.Partition.split.Goals as goal
-use Rattle.partition.proofs.Partition.split.Goals.{After-wide-s}
+use Rattle.partition.proofs.Partition.split.Goals.{After-wide-s, then-firsts-g, else-firsts-g}
 
 pub group-requires : goal.group-requires
 group-requires c =
@@ -39,10 +40,13 @@ loop-s-preserved c =
     let before = c.loop-s.invariant.1 in
     let member = c.loop-s.invariant.0.member here in
     let is = c.wide_byte-g.ensures in
-    let more = ⊎_elim
-    (λ w. renamed_new _ _ _ _ _ _ s before here pre.0.few member _ _ is.0 w.1 is.1 w.0.taken)
-    (λ w. renamed_again _ _ _ _ _ _ s before here pre.0.few member _ _ is.0 w.1 is.1 w.0.left)
-    c.if-firsts-g.branch in
+    let firsts = c.if-firsts-g.firsts in
+    let g = c.wide_byte-g.result in
+    let more : Renamed c.args.n c.args.self.names c.args.c c.group.new.into (set c.loop-s.names s (at firsts g)) firsts (s + 1) =
+    elim c.if-firsts-g.branch [
+      | then-firsts-g w ↦ renamed_new _ _ _ _ _ _ s before here pre.0.few member _ _ is.0 w.firsts-is is.1 w.if-firsts-g.true
+      | else-firsts-g w ↦ renamed_again _ _ _ _ _ _ s before here pre.0.few member _ _ is.0 w.firsts-is is.1 w.if-firsts-g.false
+    ] in
     let stored = renamed_as _ _ _ _ c.loop-s.names _ s _ _ more c.wide_byte.ensures.0 in
     (next.stands, renamed_skip _ _ _ _ _ _ (s + 1) stored _ (omega (arith, next.after)) (λ x h l. next.gap x (omega arith) l))
 
