@@ -16,13 +16,13 @@ use Rattle.meaning.specs.Trace.{edge, colour}
 use Rattle.meaning.specs.Classes.{Task, Classes, initial, round, chosen, begin, cut, run, reduction}
 use Rattle.meaning.specs.Classes.{named, classes, number}
 use Rattle.meaning.specs.ClassesLaws.{Named}
-use Rattle.meaning.specs.Reduction.{Fair, Good, run_on, run_over, good_live, initial_in, initial_good, parted-chosen, classes_max, classes_some}
+use Rattle.meaning.proofs.Reduction.{Fair, Good, run_on, run_over, good_live, initial_in, initial_good, parted-chosen, classes_max, classes_some}
 use Rattle.meaning.specs.Reduced.{live, task, conflict, edge', listed, name_of, merged, reduce, reduced, class_list}
-use Rattle.meaning.specs.Traced.{In, Fits, number_lt, name_of_lem, name_is}
-use Rattle.meaning.specs.Demand.{fits, fair, good, live_lt, target-live, live_in, in_live}
-use Rattle.meaning.specs.Demand.{states-reduced, reduced-in_order, reduced-bound}
-use Rattle.meaning.specs.Demand.{Source, reduced-edge, reduced-has, reduced-colour}
-use Rattle.meaning.specs.Dropped.{reduced-reached}
+use Rattle.meaning.proofs.Traced.{In, Fits, number_lt, name_of_lem, name_is}
+use Rattle.meaning.proofs.Demand.{fits, fair, good, live_lt, target-live, live_in, in_live}
+use Rattle.meaning.proofs.Demand.{states-reduced, reduced-in_order, reduced-bound}
+use Rattle.meaning.proofs.Demand.{Source, reduced-edge, reduced-has, reduced-colour}
+use Rattle.meaning.proofs.Dropped.{reduced-reached}
 use Rattle.again.specs.NewNumbers.{NewNumbers, old_lt, old_one, least_old}
 use Rattle.again.specs.Mirror.{Mirror, name_is_old, Together, Matched, first_old, first_neither, split_mirror}
 use Rattle.again.specs.Runs.{onward, run_refines, onward_good, onward_grows}

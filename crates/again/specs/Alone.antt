@@ -14,7 +14,7 @@ use Rattle.meaning.specs.Trace.{edge, colour, target}
 use Rattle.meaning.specs.Classes.{named, classes, number}
 use Rattle.meaning.specs.Reduced.{has, name_of, mapped, class_edge, edge', listed, merged}
 use Rattle.meaning.specs.Listing.{listed_cong, find_listed}
-use Rattle.meaning.specs.Traced.{Fits, opt, name_is}
+use Rattle.meaning.proofs.Traced.{Fits, opt, name_is}
 
 count-all : (p : ℕ → Bool) (n : ℕ) → ((i : ℕ) → i < n → p i ≡ true) → count p n ≡ n
 unfolding count

@@ -7,7 +7,7 @@ use Rattle.meaning.specs.Search.{at}
 use Rattle.meaning.specs.Cases.{no_both}
 use Rattle.meaning.specs.SearchLaws.{any_intro, any_elim}
 use Rattle.meaning.specs.Reduced.{apart, conflict}
-use Rattle.meaning.specs.Traced.{some_inj}
+use Rattle.meaning.proofs.Traced.{some_inj}
 
 pub record Parting (next : ℕ → ℕ → Option ℕ) (m : ℕ) (P : List ℕ) (s t : ℕ) : Type 0 where
   pub label : ℕ

@@ -5,7 +5,7 @@ use Rattle.std.proofs.Math.Dec.{eqb}
 use Rattle.meaning.specs.Search.{at}
 use Rattle.meaning.specs.Classes.{Task, Classes, round, chosen, cut, run, classes}
 use Rattle.meaning.specs.ClassesLaws.{name_own, split_class}
-use Rattle.meaning.specs.Reduction.{Fair, Good, round_good, round_grows, parted-chosen, run_keeps}
+use Rattle.meaning.proofs.Reduction.{Fair, Good, round_good, round_grows, parted-chosen, run_keeps}
 
 -- the record after the next round
 abbrev pub onward : Task → Classes → Classes

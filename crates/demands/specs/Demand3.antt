@@ -12,8 +12,8 @@ use Rattle.meaning.specs.Filter.{Filter, states, in_order}
 use Rattle.meaning.specs.Trace.{shown, stops}
 use Rattle.meaning.specs.Search.{count}
 use Rattle.meaning.specs.Reduced.{live, reduce, merged, reduced, class_list, distinct}
-use Rattle.meaning.specs.Demand.{reduced-bound, reduced_traces}
-use Rattle.meaning.specs.Dropped.{reached_part, reduced-reached, part_rides}
+use Rattle.meaning.proofs.Demand.{reduced-bound, reduced_traces}
+use Rattle.meaning.proofs.Dropped.{reached_part, reduced-reached, part_rides}
 use Rattle.layout.specs.declared.Profile.{Profile}
 use Rattle.layout.specs.Code.{Usable}
 use Rattle.layout.specs.Layout.{length_of, written}

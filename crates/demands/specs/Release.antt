@@ -12,11 +12,11 @@ use Rattle.meaning.specs.Filter.{Filter, states}
 use Rattle.meaning.specs.Trace.{edge, colour}
 use Rattle.meaning.specs.Reach.{led}
 use Rattle.meaning.specs.Classes.{Classes}
-use Rattle.meaning.specs.Colours.{occurring}
+use Rattle.meaning.proofs.Colours.{occurring}
 use Rattle.meaning.specs.Reduced.{live, reduce, reduced, class_list, distinct}
-use Rattle.meaning.specs.Demand.{distinct-occurring}
-use Rattle.meaning.specs.Dropped.{list_length, list_led, list_not_led}
-use Rattle.meaning.specs.Leftovers.{AsReached, leftovers_idle}
+use Rattle.meaning.proofs.Demand.{distinct-occurring}
+use Rattle.meaning.proofs.Dropped.{list_length, list_led, list_not_led}
+use Rattle.meaning.proofs.Leftovers.{AsReached, leftovers_idle}
 use Rattle.again.specs.Again.{reduced_again}
 use Rattle.refusals.specs.Refusals.{Outcome, accepted, refused, refusal_outcome, laid}
 use Rattle.layout.specs.declared.Profile.{Profile}

@@ -17,8 +17,8 @@ use Rattle.meaning.specs.Trace.{edge, colour}
 use Rattle.meaning.specs.Classes.{classes}
 use Rattle.meaning.specs.Reduced.{has, name_of, edge', listed, merged, reduce, reduced}
 use Rattle.meaning.specs.Listing.{cells_max, listed-length}
-use Rattle.meaning.specs.Demand.{reduced-in_order, reduced-bound, reduced_edges}
-use Rattle.meaning.specs.Staying.{reduced-stays}
+use Rattle.meaning.proofs.Demand.{reduced-in_order, reduced-bound, reduced_edges}
+use Rattle.meaning.proofs.Staying.{reduced-stays}
 use Rattle.layout.specs.declared.Profile.{Profile}
 use Rattle.layout.specs.Layout.{fault_colour, header_bits, edge_bits, edges_begin, file_bits, bytes_for, file_length, length_of, written}
 use Rattle.layout.specs.Code.{Usable}

@@ -15,12 +15,12 @@ use Rattle.meaning.specs.Pick.{pick}
 use Rattle.meaning.specs.Cases.{cases_of}
 use Rattle.meaning.specs.SearchLaws.{length-tab, tab_cong}
 use Rattle.meaning.specs.Reach.{reached}
-use Rattle.meaning.specs.ReachLaws.{reached_labels}
+use Rattle.meaning.proofs.ReachLaws.{reached_labels}
 use Rattle.meaning.specs.Filter.{Filter, states, in_order}
 use Rattle.meaning.specs.Trace.{edge, colour}
 use Rattle.meaning.specs.Classes.{Task, Classes, initial, groups, reduction, classes, number}
-use Rattle.meaning.specs.Traced.{In, opt}
-use Rattle.meaning.specs.Demand.{fits, start_live, target-live, in_live, good}
+use Rattle.meaning.proofs.Traced.{In, opt}
+use Rattle.meaning.proofs.Demand.{fits, start_live, target-live, in_live, good}
 use Rattle.meaning.specs.Reduced.{live, task_over, task, reduce, merged_over, merged, reduced, class_list, distinct}
 use Rattle.layout.specs.declared.Profile.{Profile}
 use Rattle.layout.specs.Code.{Usable}

@@ -15,7 +15,7 @@ use lib.Seq.{length-take-le, get_or-take, get_or-drop, get_or-append-add, ext_ge
 use Rattle.bits.proofs.Reading.{field_lt}
 use Rattle.pen.specs.Runs.{fields}
 use Rattle.meaning.specs.Cases.{impossible, cases_of, same²}
-use Rattle.meaning.specs.Demand.{fits}
+use Rattle.meaning.proofs.Demand.{fits}
 use Rattle.meaning.specs.Filter.{Edge, ascending, states}
 use Rattle.meaning.specs.Search.{at}
 use Rattle.meaning.specs.Trace.{target, edge, colour}

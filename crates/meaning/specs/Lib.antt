@@ -7,17 +7,9 @@ pub mod Reach
 pub mod Classes
 pub mod Reduced
 pub mod Fault
--- Laws and theorems.
+-- Laws.
 pub mod Cases
 pub mod SearchLaws
 pub mod TraceLaws
-pub mod ReachLaws
 pub mod ClassesLaws
-pub mod Reduction
 pub mod Listing
-pub mod Colours
-pub mod Traced
-pub mod Demand
-pub mod Staying
-pub mod Dropped
-pub mod Leftovers

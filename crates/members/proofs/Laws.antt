@@ -11,7 +11,7 @@ use Rattle.meaning.specs.Cases.{cases_of}
 use Rattle.meaning.specs.Search.{at}
 use Rattle.meaning.specs.SearchLaws.{at_take}
 use Rattle.meaning.specs.ClassesLaws.{Named}
-use Rattle.meaning.specs.ReachLaws.{among_at}
+use Rattle.meaning.proofs.ReachLaws.{among_at}
 use Rattle.members.specs.Members.{Seated, Linked, Heads}
 
 -- ---- from one member to the next

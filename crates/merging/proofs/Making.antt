@@ -13,7 +13,7 @@ use Rattle.meaning.specs.SearchLaws.{at_tab, length-tab, tab_cong, count_max, le
 use Rattle.meaning.specs.Classes as Classes
 use Rattle.meaning.specs.Classes.{classes, number}
 use Rattle.meaning.specs.Cases.{and_left}
-use Rattle.meaning.specs.Traced.{In, opt, number_lt, name_is}
+use Rattle.meaning.proofs.Traced.{In, opt, number_lt, name_is}
 use Rattle.meaning.specs.Reduced.{has, name_of, mapped, class_edge, edge', listed}
 use Rattle.meaning.specs.Listing.{listed_cong}
 use Rattle.layout.specs.declared.Profile.{Profile}

@@ -12,7 +12,7 @@ use Rattle.meaning.specs.Pick.{pick}
 use Rattle.meaning.specs.Search.{count, tab, at}
 use Rattle.meaning.specs.SearchLaws.{at_tab, length-tab, tab-snoc, count_hit, count_miss, at_take}
 use Rattle.meaning.specs.Classes.{named, number}
-use Rattle.meaning.specs.Traced.{In, name_of_lem}
+use Rattle.meaning.proofs.Traced.{In, name_of_lem}
 use Rattle.meaning.specs.Reduced.{name_of}
 use Rattle.refusals.specs.Refusals.{laid}
 use Rattle.numbering.specs.Names.{Names, new_number}

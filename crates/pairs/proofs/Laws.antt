@@ -11,7 +11,7 @@ use Rattle.meaning.specs.Pick.{pick}
 use Rattle.meaning.specs.Cases.{cases_of, no_both, and_intro, and_left, and_right}
 use Rattle.meaning.specs.Search.{least, at}
 use Rattle.meaning.specs.SearchLaws.{any_intro, any_elim, any_cong, least_is, least_ok, least_max, least_none, least_empty, at_take}
-use Rattle.meaning.specs.ReachLaws.{among_at}
+use Rattle.meaning.proofs.ReachLaws.{among_at}
 use Rattle.meaning.specs.Classes.{parted, first}
 use Rattle.meaning.specs.ClassesLaws.{Named, pair, name_own}
 use Rattle.conflicts.proofs.Laws.{and-false, any_empty}

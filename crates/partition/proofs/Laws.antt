@@ -13,7 +13,7 @@ use Rattle.meaning.specs.Cases.{cases_of, and_intro, and_left, and_right, or_rig
 use Rattle.meaning.specs.Search.{least, tab, at}
 use Rattle.meaning.specs.SearchLaws.{least_is, least_cong, tab_cong, at_take}
 use Rattle.meaning.specs.Reach.{among}
-use Rattle.meaning.specs.ReachLaws.{among_at, at_among, among-snoc, or-false}
+use Rattle.meaning.proofs.ReachLaws.{among_at, at_among, among-snoc, or-false}
 use Rattle.meaning.specs.Classes.{groups, split}
 use Rattle.reach.specs.Walking.{Rises}
 use Rattle.partition.specs.Partition.{twin, beginning, rounded}

@@ -16,8 +16,8 @@ use Rattle.meaning.specs.Cases.{cases_of, no_both, or_right}
 use Rattle.meaning.specs.Search.{count, at}
 use Rattle.meaning.specs.SearchLaws.{at_take, count_none}
 use Rattle.meaning.specs.Reach.{among, meet, visited, walked, walk, reached}
-use Rattle.meaning.specs.ReachLaws.{Codes, codes_few, codes_meet, at_among, among-snoc, or-false, meet_old, meet_new, visited_skip}
-use Rattle.meaning.specs.ReachLaws.{Bounded, walked_on, walked_enough, walked_codes, walked_full}
+use Rattle.meaning.proofs.ReachLaws.{Codes, codes_few, codes_meet, at_among, among-snoc, or-false, meet_old, meet_new, visited_skip}
+use Rattle.meaning.proofs.ReachLaws.{Bounded, walked_on, walked_enough, walked_codes, walked_full}
 use Rattle.sets.specs.Sets.{holds, Lowest}
 use Rattle.sets.proofs.Laws.{From, from_all, from_above, from_gap, from_next, from_none}
 use Rattle.table.specs.Table.{Table, look}

@@ -5,7 +5,7 @@ use Rattle.std.proofs.Math.Option.{some}
 use Rattle.meaning.specs.Pick.{pick}
 use Rattle.meaning.specs.Search.{at}
 use Rattle.meaning.specs.Reach.{among}
-use Rattle.meaning.specs.ReachLaws.{Codes}
+use Rattle.meaning.proofs.ReachLaws.{Codes}
 use Rattle.table.specs.Table.{Table, look, Rows}
 
 -- The first `met` entries of the queue are the codes met so far, and these have a number: 65,535 is none.

@@ -7,8 +7,8 @@ use Rattle.meaning.specs.Search.{at}
 use Rattle.meaning.specs.Cases.{cases_of}
 use Rattle.meaning.specs.Filter.{Filter, states, in_order}
 use Rattle.meaning.specs.Reduced.{live, reduce, reduced, class_list, distinct}
-use Rattle.meaning.specs.Demand.{reduced-bound}
-use Rattle.meaning.specs.Dropped.{list_length, list_number, list_dropped}
+use Rattle.meaning.proofs.Demand.{reduced-bound}
+use Rattle.meaning.proofs.Dropped.{list_length, list_number, list_dropped}
 use Rattle.refusals.specs.Refusals.{Outcome, accepted, refused}
 use Rattle.layout.specs.Layout.{large}
 use Rattle.layout.specs.Contents.{filter_in}

@@ -16,9 +16,9 @@ use Rattle.meaning.specs.Classes.{round, chosen, begin, cut, run, reduction}
 use Rattle.meaning.specs.Cases.{cases_of, no_both}
 use Rattle.meaning.specs.ClassesLaws.{Named, groups-apart, split_out, split_class, split-all}
 use Rattle.meaning.specs.Reduced.{Grouping, apart, conflict, task_over}
-use Rattle.meaning.specs.Reduction.{Fair, Good, Kept, good_live, initial_good, cut_kept, classes_some, classes_max}
+use Rattle.meaning.proofs.Reduction.{Fair, Good, Kept, good_live, initial_good, cut_kept, classes_some, classes_max}
 use Rattle.meaning.specs.Reach.{among, reached}
-use Rattle.meaning.specs.ReachLaws.{among_at, at_among, Bounded, reached-first, reached_lt}
+use Rattle.meaning.proofs.ReachLaws.{among_at, at_among, Bounded, reached-first, reached_lt}
 use Rattle.table.specs.Table.{Table, look}
 use Rattle.conflicts.specs.Conflicts.{clash}
 use Rattle.conflicts.proofs.Laws.{and-false, clash_labels}

@@ -13,7 +13,7 @@ use Rattle.meaning.specs.Filter.{Edge, each}
 use Rattle.meaning.specs.Trace.{edge, colour, shown, stops}
 use Rattle.meaning.specs.TraceLaws.{shown_count, ridden-length}
 use Rattle.meaning.specs.Fault.{leaves, stays, fault_stays}
-use Rattle.meaning.specs.Staying.{shown-stays}
+use Rattle.meaning.proofs.Staying.{shown-stays}
 use Rattle.refusals.specs.Refusals.{accepted, laid}
 use Rattle.refusals.proofs.Laws.{promise_laid}
 use Rattle.layout.specs.Layout.{large, edges_begin}

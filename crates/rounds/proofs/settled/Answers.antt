@@ -6,7 +6,7 @@ use mathlib.Core.List.{List}
 use native.Mathlib.Omega.{arith}
 use lib.Seq.{length-take-le}
 use Rattle.meaning.specs.Reach.{among}
-use Rattle.meaning.specs.ReachLaws.{Bounded}
+use Rattle.meaning.proofs.ReachLaws.{Bounded}
 use Rattle.meaning.specs.Classes.{groups}
 use Rattle.table.specs.Table.{table, look}
 use Rattle.reach.proofs.Laws.{look_bounded}

@@ -9,7 +9,7 @@ use native.Mathlib.Omega.{arith}
 use lib.ListN.{length}
 use Rattle.bits.specs.Bits.{Bytes, put_field}
 use Rattle.meaning.specs.Search.{at}
-use Rattle.meaning.specs.Traced.{opt}
+use Rattle.meaning.proofs.Traced.{opt}
 use Rattle.layout.specs.Layout.{header_bits, edges_begin, file_bits, bytes_for, file_length, fill_bits, length_of, put_edges}
 use Rattle.layout.specs.Code.{Usable}
 use Rattle.layout.proofs.Bounds.{colours_high}

@@ -12,17 +12,17 @@ use Rattle.meaning.specs.Cases.{cases_of, impossible}
 use Rattle.meaning.specs.SearchLaws.{least_empty, at_tab, length-tab, count_cong}
 use Rattle.meaning.specs.TraceLaws.{ridden_on, ridden_stop, halted_on, halted_stop}
 use Rattle.meaning.specs.Reach.{led}
-use Rattle.meaning.specs.ReachLaws.{led_on, led_some}
+use Rattle.meaning.proofs.ReachLaws.{led_on, led_some}
 use Rattle.meaning.specs.Filter.{Filter, states, in_order}
 use Rattle.meaning.specs.Trace.{colour, edge, later, ridden, halted, shown, stops}
 use Rattle.meaning.specs.Classes.{chosen, first, parted, named, classes, number}
 use Rattle.meaning.specs.ClassesLaws.{pair}
-use Rattle.meaning.specs.Reduction.{Good}
+use Rattle.meaning.proofs.Reduction.{Good}
 use Rattle.meaning.specs.Reduced.{live, task, conflict, edge', name_of, merged, reduce, reduced, class_list}
 use Rattle.meaning.specs.Listing.{find_listed, find_each, each-listed}
-use Rattle.meaning.specs.Traced.{In, Fits, opt, number_lt, name_of_lem, name_is, colour_kept, edge_kept}
-use Rattle.meaning.specs.Demand.{fits, start_live, target-live, live_lt, live-led, led-live, good, calm_end, live_in, in_live, onward}
-use Rattle.meaning.specs.Demand.{source, states-reduced, reduced-in_order, reduced-bound}
+use Rattle.meaning.proofs.Traced.{In, Fits, opt, number_lt, name_of_lem, name_is, colour_kept, edge_kept}
+use Rattle.meaning.proofs.Demand.{fits, start_live, target-live, live_lt, live-led, led-live, good, calm_end, live_in, in_live, onward}
+use Rattle.meaning.proofs.Demand.{source, states-reduced, reduced-in_order, reduced-bound}
 
 -- Names by which each reached state is a class of its own, and a dropped one is in none.
 unfoldable pub alone : Filter → List ℕ

@@ -15,7 +15,7 @@ use Rattle.meaning.specs.SearchLaws.{any_none, least_of, at_tab, count_step}
 use Rattle.meaning.specs.TraceLaws.{ridden_on, halted_on, halted_stop}
 use Rattle.meaning.specs.Classes.{chosen, named, classes, number}
 use Rattle.meaning.specs.ClassesLaws.{Named, calm}
-use Rattle.meaning.specs.Reduction.{Good}
+use Rattle.meaning.proofs.Reduction.{Good}
 use Rattle.meaning.specs.Filter.{Filter, states}
 use Rattle.meaning.specs.Trace.{colour, edge, later, ridden, halted}
 use Rattle.meaning.specs.Reduced.{task, apart, conflict, has, name_of, mapped, class_edge, edge', merged}

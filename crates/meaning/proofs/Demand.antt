@@ -12,15 +12,15 @@ use Rattle.meaning.specs.Cases.{or_left, cases_of, same², and_intro, and_left, 
 use Rattle.meaning.specs.SearchLaws.{count_max, count_none, least_ok, length-tab}
 use Rattle.meaning.specs.Classes.{chosen, named, classes, number}
 use Rattle.meaning.specs.ClassesLaws.{groups-apart}
-use Rattle.meaning.specs.Reduction.{Fair, Good, good_live, reduction_kept, reduction_calm, reduction-bound}
+use Rattle.meaning.proofs.Reduction.{Fair, Good, good_live, reduction_kept, reduction_calm, reduction-bound}
 use Rattle.meaning.specs.Reach.{led}
-use Rattle.meaning.specs.ReachLaws.{Bounded, reached-first, reached_on, reached_lt, reached-led, led-reached}
+use Rattle.meaning.proofs.ReachLaws.{Bounded, reached-first, reached_on, reached_lt, reached-led, led-reached}
 use Rattle.meaning.specs.Filter.{Edge, Filter, states, each, ascending, inside, in_order}
 use Rattle.meaning.specs.Trace.{colour, edge, target, shown, stops}
 use Rattle.meaning.specs.Reduced.{live, task, has, mapped, class_edge, edge', merged, reduce, reduced, name_of, distinct}
-use Rattle.meaning.specs.Colours.{occurring, classes-occurring}
+use Rattle.meaning.proofs.Colours.{occurring, classes-occurring}
 use Rattle.meaning.specs.Listing.{find_listed, find_each, cells, listed-length, cells_mono, cells_on, each-listed, listed_ascends}
-use Rattle.meaning.specs.Traced.{Fits, opt, number_lt, name_is, In, colour_kept, edge_kept, traced}
+use Rattle.meaning.proofs.Traced.{Fits, opt, number_lt, name_is, In, colour_kept, edge_kept, traced}
 
 pub fits : (F : Filter) → states F ≤ 256 → in_order F ≡ true → Fits F
 unfolding in_order inside edge

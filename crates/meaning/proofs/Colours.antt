@@ -5,7 +5,7 @@ use Rattle.meaning.specs.Search.{any, least, count, bit, at}
 use Rattle.meaning.specs.Cases.{cases_of, and_intro}
 use Rattle.meaning.specs.SearchLaws.{any_elim, any_none, least_le, least_is, count_none, count_cong, count_or}
 use Rattle.meaning.specs.Classes.{Task, initial, named, classes}
-use Rattle.meaning.specs.Reduction.{Fair, initial_in, initial_out}
+use Rattle.meaning.proofs.Reduction.{Fair, initial_in, initial_out}
 
 -- how many colours below k some state below n has that takes part
 unfoldable pub occurring : (ℕ → Bool) → (ℕ → ℕ) → ℕ → ℕ → ℕ

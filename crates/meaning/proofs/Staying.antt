@@ -14,8 +14,8 @@ use Rattle.meaning.specs.Filter.{Edge, Filter, states, in_order}
 use Rattle.meaning.specs.Trace.{colour, edge, ridden, shown}
 use Rattle.meaning.specs.Reduced.{edge', merged, reduce, reduced}
 use Rattle.meaning.specs.Listing.{find_each, each-listed}
-use Rattle.meaning.specs.Traced.{opt, name_is, In, colour_kept}
-use Rattle.meaning.specs.Demand.{fits, source, good, onward, calm_end}
+use Rattle.meaning.proofs.Traced.{opt, name_is, In, colour_kept}
+use Rattle.meaning.proofs.Demand.{fits, source, good, onward, calm_end}
 use Rattle.meaning.specs.Fault.{leaves, stays, fault_stays}
 
 -- whether an edge leaves the fault colour depends on the colours of its ends alone

@@ -16,13 +16,13 @@ use Rattle.meaning.specs.SearchLaws.{any_cong, least_cong, least_ok, least_max, 
 use Rattle.meaning.specs.Filter.{Filter, states, in_order}
 use Rattle.meaning.specs.Trace.{edge, colour}
 use Rattle.meaning.specs.Reach.{led}
-use Rattle.meaning.specs.ReachLaws.{led_on, led_some}
+use Rattle.meaning.proofs.ReachLaws.{led_on, led_some}
 use Rattle.meaning.specs.Classes.{Task, Classes, initial, parted, first, free, groups, split, round, chosen, begin, cut, run, reduction, classes, number}
-use Rattle.meaning.specs.Reduction.{Fair, Good, run_on, run_over, good_live, initial_good, round_good, parted-chosen}
+use Rattle.meaning.proofs.Reduction.{Fair, Good, run_on, run_over, good_live, initial_good, round_good, parted-chosen}
 use Rattle.meaning.specs.Reduced.{apart, conflict, live, task_over, task, reduce, name_of, has, mapped, class_edge, edge', listed, merged_over, merged, reduced, class_list, distinct}
 use Rattle.meaning.specs.Listing.{listed_cong}
-use Rattle.meaning.specs.Traced.{opt, name_is}
-use Rattle.meaning.specs.Demand.{fits, fair, good, start_live, target-live, live-led, led-live}
+use Rattle.meaning.proofs.Traced.{opt, name_is}
+use Rattle.meaning.proofs.Demand.{fits, fair, good, start_live, target-live, live-led, led-live}
 
 -- ---- tasks that agree about the states that take part
 
