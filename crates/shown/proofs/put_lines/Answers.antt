@@ -23,7 +23,7 @@ loop-i-preserved c =
     let line =
     both a.room.now 0 (number_lines (take loop.i ns)) (ended (get_or ns loop.i 0)) (omega arith) loop.invariant.3 loop.invariant.4 c.put_line-at.ensures.0 c.put_line-at.ensures.1 in
     let done = same a.room.now 0 more line.0 line.1 in
-    (omega arith, omega (arith, c.put_line-at.ensures.2), c.put_line-at.auto.0 ∙ loop.invariant.2, done.0, done.1)
+    (omega arith, omega (arith, c.put_line-at.ensures.2), c.put_line-at.auto.room ∙ loop.invariant.2, done.0, done.1)
 
 pub returns : goal.returns
 returns c =
@@ -34,18 +34,3 @@ returns c =
     let is = ap (λ (k : ℕ). number_lines (take k ns)) all ∙ ap number_lines (take-length ns) in
     let done = same a.room.now 0 is loop.invariant.3 loop.invariant.4 in
     (done.0, done.1 ∙ zero-add _, omega (arith, all, loop.invariant.1))
-
-pub bounds-numbers-i : goal.bounds-numbers-i
-bounds-numbers-i c = omega arith
-
-pub put_line-at-requires : goal.put_line-at-requires
-put_line-at-requires c = omega arith
-
-pub overflow_add-i : goal.overflow_add-i
-overflow_add-i c = omega arith
-
-pub loop-i-smaller : goal.loop-i-smaller
-loop-i-smaller c = omega arith
-
-pub shape_of-room : goal.shape_of-room
-shape_of-room c = c.loop-i.invariant.2
