@@ -7,7 +7,7 @@
 
 ghost use Rattle.std.specs.Prelude.{◌≡◌, ◌≤◌, ◌<◌, ◌^◌, length};
 
-use libc::{STDIN_FILENO, STDOUT_FILENO};
+use std::io::{Read, Write};
 
 // What stands before the strings of a case: the call, its two numbers, and the strings' lengths.
 #[derive(Clone, Copy)]
@@ -50,9 +50,9 @@ fn short(s: &[u8], at: usize) -> usize
 }
 
 // How many cases there are; none where the number itself is cut off.
-pub fn count() -> u64 {
+pub fn count<R: Read>(input: &mut R) -> u64 {
     let mut s = [0u8; 8];
-    if io::read_full(STDIN_FILENO, &mut s) < 8 {
+    if streams::read_full(input, &mut s) < 8 {
         return 0;
     }
     long(&s, 0)
@@ -70,19 +70,19 @@ fn head_of(s: [u8; 29]) -> Head {
 }
 
 // What stands before the next case's strings.
-pub fn next_case() -> Next {
+pub fn next_case<R: Read>(input: &mut R) -> Next {
     let mut s = [0u8; 29];
-    if io::read_full(STDIN_FILENO, &mut s) < 29 {
+    if streams::read_full(input, &mut s) < 29 {
         return Next::CutOff;
     }
     Next::Case(head_of(s))
 }
 
 // Reads n bytes to the front of s; whether there were so many.
-pub fn read_string(s: &mut [u8], n: usize) -> bool
+pub fn read_string<R: Read>(input: &mut R, s: &mut [u8], n: usize) -> bool
     requires { n ≤ length s.old }
 {
-    io::read_full(STDIN_FILENO, &mut s[0..n]) == n
+    streams::read_full(input, &mut s[0..n]) == n
 }
 
 fn put_long(out: &mut [u8], at: usize, n: u64)
@@ -95,29 +95,29 @@ fn put_long(out: &mut [u8], at: usize, n: u64)
 }
 
 // The number, the place and the counts of an answer, in 41 bytes.
-pub fn write_answer(answer: Answer) {
+pub fn write_answer<W: Write>(output: &mut W, answer: Answer) {
     let counts = answer.counts;
     let mut out = [0u8; 41];
     out[0] = answer.number;
     put_long(&mut out, 8, answer.place);
-    write_counts(out, counts);
+    write_counts(output, out, counts);
 }
 
-fn write_counts(head: [u8; 41], counts: [u64; 4]) {
+fn write_counts<W: Write>(output: &mut W, head: [u8; 41], counts: [u64; 4]) {
     let mut out = head;
     put_long(&mut out, 72, counts[0]);
     put_long(&mut out, 136, counts[1]);
     put_long(&mut out, 200, counts[2]);
     put_long(&mut out, 264, counts[3]);
-    io::write_all(STDOUT_FILENO, &out);
+    let _ = output.write_all(&out);
 }
 
 // Writes the strings behind an answer; whether they were taken.
-pub fn write_strings(b: &[u8], c: &[u8]) -> bool {
-    if !io::write_all(STDOUT_FILENO, b) {
+pub fn write_strings<W: Write>(output: &mut W, b: &[u8], c: &[u8]) -> bool {
+    if output.write_all(b).is_err() {
         return false;
     }
-    io::write_all(STDOUT_FILENO, c)
+    output.write_all(c).is_ok()
 }
 
 fn wide(x: u16) -> u64

@@ -1,12 +1,12 @@
 // Reduces the filter file on standard input, and prints its counts and the new number of each state.
 #![tactic(auto)]
 
-use libc::{STDIN_FILENO, STDOUT_FILENO};
+use std::io::Write;
 
-fn main() {
+fn main(rt: HostRuntime) {
     let mut file = lines::file_room();
-    let n = io::read_full(STDIN_FILENO, &mut file);
+    let n = streams::read_full(&mut rt.stdin(), &mut file);
     let mut text = lines::reduce_room();
     let k = report::text(&file[..n], &mut text);
-    io::write_all(STDOUT_FILENO, &text[..k]);
+    let _ = rt.stdout().write_all(&text[..k]);
 }

@@ -1,37 +1,46 @@
 // Traces the observations on standard input through the filter file that the first argument names, and prints the colours.
 #![tactic(auto)]
 
-ghost use Rattle.io.specs.Counts.{IsPrefixLen};
+ghost use Rattle.std.specs.Counts.{IsPrefixLen};
 
-use libc::{STDIN_FILENO, STDOUT_FILENO};
+use std::fs::File;
+use std::io::Write;
+use std::rt::{Env, Files};
 
-fn none(room: &[u8]) -> usize
-    ensures { IsPrefixLen result room.now }
+// The first argument, put at the room's beginning; one that is missing or longer than the room counts as empty.
+fn first_argument(rt: &impl Env, room: &mut [u8]) -> usize
+    ensures { IsPrefixLen result room.new }
 {
-    io::count(0, room)
+    match rt.arg(1, room) {
+        Ok(n) => n,
+        Err(_) => 0,
+    }
 }
 
 // The first bytes of the file that is named; one that cannot be opened or read counts as empty.
-fn load(path: &[u8], room: &mut [u8]) -> usize
+fn load(rt: &impl Files, path: &[u8], room: &mut [u8]) -> usize
     ensures { IsPrefixLen result room.new }
 {
-    let fd = os::open_read(path);
-    if fd < 0 {
-        return none(room);
+    let Ok(path) = str::from_utf8(path) else {
+        return 0;
+    };
+    match File::open(rt, path) {
+        Ok(file) => {
+            let mut file = file;
+            streams::read_full(&mut file, room)
+        }
+        Err(_) => 0,
     }
-    let n = io::read_full(fd, room);
-    libc::close(fd);
-    n
 }
 
-fn main() {
-    let mut path = io::buffer();
-    let length = os::arg(1, &mut path);
+fn main(rt: HostRuntime) {
+    let mut path = [0; 4096];
+    let length = first_argument(&rt, &mut path);
     let mut file = lines::file_room();
-    let n = load(&path[..length], &mut file);
-    let mut observations = io::large_buffer();
-    let m = io::read_full(STDIN_FILENO, &mut observations);
+    let n = load(&rt, &path[..length], &mut file);
+    let mut observations = [0; 65536];
+    let m = streams::read_full(&mut rt.stdin(), &mut observations);
     let mut text = shown::trace_room();
     let k = shown::text(&file[..n], &observations[..m], &mut text);
-    io::write_all(STDOUT_FILENO, &text[..k]);
+    let _ = rt.stdout().write_all(&text[..k]);
 }
