@@ -6,4 +6,4 @@ use Rattle.checking.specs.Promise.{checked_outcome}
 use Rattle.checking.proofs.refusal.Goals as goal
 
 pub returns-in-Refused : goal.returns-in-Refused
-returns-in-Refused c = ap (λ (a : Checked). onward (checked_outcome a) (refusal_outcome c.answer-1.given.0.0)) c.answer-1.given.1
+returns-in-Refused c = ap (λ (a : Checked). onward (checked_outcome a) (refusal_outcome c.in-Refused.why)) c.in-Refused.is

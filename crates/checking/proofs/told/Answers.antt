@@ -7,7 +7,7 @@ use Rattle.files.specs.Files.{reading_outcome}
 use Rattle.checking.proofs.told.Goals as goal
 
 pub returns-in-Faultless : goal.returns-in-Faultless
-returns-in-Faultless c = sym (ap (λ (v : Verdict). edges_then (fault_of v) (reading_outcome c.args.r)) c.enum_told-1.given.1)
+returns-in-Faultless c = sym (ap (λ (v : Verdict). edges_then (fault_of v) (reading_outcome c.args.r)) c.in-Faultless.is)
 
 pub returns-in-Faulty : goal.returns-in-Faulty
-returns-in-Faulty c = sym (ap (λ (v : Verdict). edges_then (fault_of v) (reading_outcome c.args.r)) c.verdict-1.given.1)
+returns-in-Faulty c = sym (ap (λ (v : Verdict). edges_then (fault_of v) (reading_outcome c.args.r)) c.in-Faulty.is)
