@@ -10,7 +10,7 @@ use lib.ListN.{length}
 use borrow.Author.Tests.{eq-eqb, eqb-true}
 use Rattle.meaning.specs.Filter.{Filter}
 use Rattle.refusals.specs.declared.Refusal.{Refusal}
-use Rattle.refusals.specs.Refusals.{accepted, refusal_outcome, laid}
+use Rattle.refusals.specs.Refusals.{accepted, laid}
 use Rattle.refusals.proofs.Laws.{promise_refused, promise_accepted}
 use Rattle.layout.specs.declared.Profile.{Profile}
 use Rattle.layout.specs.Layout.{flat, threes, from_lists, length_of, written}

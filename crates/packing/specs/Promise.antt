@@ -1,7 +1,7 @@
 -- What pack answers, and what it promises of its answer and of every byte that it is lent to write. What is lent to be read
 -- cannot change.
 -- Assumes nothing.
-use Rattle.std.specs.Prelude.{ℕ, ◌%◌, ◌/◌, ◌*◌, ◌≤◌, ◌≡◌, List, [], ◌∷◌, eqb, length}
+use Rattle.std.specs.Prelude.{ℕ, ◌%◌, ◌/◌, ◌≤◌, List, [], ◌∷◌, eqb, length}
 use Rattle.pen.specs.Runs.{Fit}
 use Rattle.refusals.specs.Refusals.{Outcome, accepted, refusal_outcome, Lent, lent, Promise}
 use Rattle.layout.specs.declared.Profile.{Profile}

@@ -1,5 +1,4 @@
 use mathlib.Core.Path.{sym, ◌∙◌}
-use Prim.Native.Nat.{◌-◌}
 use native.Mathlib.Omega.{arith}
 use Rattle.files.specs.Written.{above_here, below_next, below_end}
 use Rattle.packing.proofs.all_below.Goals as goal

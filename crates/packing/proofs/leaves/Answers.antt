@@ -5,14 +5,14 @@ use Rattle.packing.proofs.leaves.Goals as goal
 
 pub returns-in_default : goal.returns-in_default
 unfolding leaves
-returns-in_default c = rw c.enum_told-1.given.1
+returns-in_default c = rw c.in_default.is
 
 pub returns-then-wide_byte-colour : goal.returns-then-wide_byte-colour
 unfolding leaves
 returns-then-wide_byte-colour c =
-    rw (c.fault-1.given.1, ← c.wide_byte.ensures.0, ne_eqb _ _ c.if-wide_byte-colour.true)
+    rw (c.in-Is.is, ← c.wide_byte.ensures.0, ne_eqb _ _ c.if-wide_byte-colour.true)
 
 pub returns : goal.returns
 unfolding leaves
 returns c =
-    rw (c.fault-1.given.1, ← c.wide_byte.ensures.0, eq-eqb _ _ c.if-wide_byte-colour.false, ← c.wide_byte-2.ensures.0)
+    rw (c.in-Is.is, ← c.wide_byte.ensures.0, eq-eqb _ _ c.if-wide_byte-colour.false, ← c.wide_byte-2.ensures.0)

@@ -1,26 +1,30 @@
 use mathlib.Core.Path.{◌≡◌, ap, sym, subst, ◌∙◌}
-use mathlib.Core.List.{◌∷◌}
-use Prim.Native.Nat.{◌+◌, ◌*◌, ◌-◌}
+use mathlib.Core.List.{List, ◌∷◌, []}
+use Prim.Native.Nat.{ℕ, ◌+◌, ◌*◌}
 use native.Mathlib.Nat.{le_antisymm}
 use native.Mathlib.Omega.{arith}
 use lib.ListN.{length}
 use lib.Seq.{take-length}
-use Rattle.pen.specs.Runs.{inked, place_of, Drawn}
+use Rattle.pen.specs.Runs.{Fit, inked, place_of, Drawn}
 use Rattle.pen.proofs.Runs.{fit_length}
 use Rattle.pen.proofs.Pens.{drawn-behind, drawn-length}
 use Rattle.meaning.specs.Filter.{Edge}
+use Rattle.layout.specs.declared.Profile.{Profile}
 use Rattle.layout.specs.Layout.{edge_widths, flat}
-use Rattle.layout.specs.Code.{edge_in}
 use Rattle.layout.proofs.Bounds.{edges_high}
 use Rattle.layout.proofs.EdgeLists.{length_widths, total_edges, widths_append, fit_edge, take_three}
 use Rattle.packing.proofs.put_all.Goals as goal
+
+-- there are three bytes for each edge
+whole_list : (P : Profile) (e : ℕ) (edges : List ℕ) → Fit (edge_widths P e) edges → length edges ≡ 3 * e
+whole_list P e edges fit = sym (fit_length (edge_widths P e) edges fit) ∙ length_widths P e
 
 pub loop-i-init : goal.loop-i-init
 unfolding edge_widths
 loop-i-init c = (omega arith, c.begin-pen.ensures)
 
 pub edge_in-requires : goal.edge_in-requires
-edge_in-requires c = omega (arith, (let it : length c.args.edges.now ≡ 3 * c.args.e = sym (fit_length (edge_widths c.args.p c.args.e) c.args.edges.now c.requires.fit) ∙ length_widths c.args.p c.args.e in it))
+edge_in-requires c = omega (arith, whole_list c.args.p c.args.e c.args.edges.now c.requires.fit)
 
 pub push-pen-requires : goal.push-pen-requires
 push-pen-requires c =
@@ -47,20 +51,20 @@ loop-i-preserved c =
     let i = loop.i in
     let next : 3 * (i + 1) ≡ 3 * i + 3 = omega arith in
     let drawn =
-    subst (λ (e : Edge). Drawn (inked loop.part loop.pen) (place_of loop.pen) (edge_widths a.p 1) (flat (e ∷ [])) c.push-pen.new.1.0 c.push-pen.result)
+    subst (λ (e : Edge). Drawn (inked loop.part loop.pen) (place_of loop.pen) (edge_widths a.p 1) (flat (e ∷ [])) c.push-pen.new.room c.push-pen.result)
     c.edge_in.ensures.0 c.push-pen.ensures in
-    (omega arith, rw (next, take_three edges (3 * i) (omega (arith, (let it : length c.args.edges.now ≡ 3 * c.args.e = sym (fit_length (edge_widths c.args.p c.args.e) c.args.edges.now c.requires.fit) ∙ length_widths c.args.p c.args.e in it))), widths_append a.p i 1) (drawn-behind loop.invariant.1 drawn))
+    (omega arith, rw (next, take_three edges (3 * i) (omega (arith, whole_list c.args.p c.args.e c.args.edges.now c.requires.fit)), widths_append a.p i 1) (drawn-behind loop.invariant.1 drawn))
 
 pub finish-requires : goal.finish-requires
 finish-requires c = c.loop-i.invariant.1.ready
 
 pub shape_of-part : goal.shape_of-part
-shape_of-part c = c.finish.auto.0 ∙ drawn-length c.loop-i.invariant.1
+shape_of-part c = c.finish.auto.s ∙ drawn-length c.loop-i.invariant.1
 
 pub returns : goal.returns
 returns c =
     let loop = c.loop-i in
     let edges = c.args.edges.now in
     let all : loop.i ≡ c.args.e = le_antisymm loop.invariant.0 c.loop-i-test.false in
-    let three : 3 * c.args.e ≡ length edges = sym ((let it : length c.args.edges.now ≡ 3 * c.args.e = sym (fit_length (edge_widths c.args.p c.args.e) c.args.edges.now c.requires.fit) ∙ length_widths c.args.p c.args.e in it)) in
+    let three : 3 * c.args.e ≡ length edges = sym (whole_list c.args.p c.args.e c.args.edges.now c.requires.fit) in
     c.finish.ensures ∙ rw (all, three, take-length edges) at loop.invariant.1.ink

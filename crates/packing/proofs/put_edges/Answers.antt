@@ -14,7 +14,7 @@ returns c =
     let room = a.room.now in
     let from = a.at / 8 in
     let at : from * 8 + a.at % 8 ≡ a.at = omega arith in
-    back_tail room c.??put_all_lem.new.1.0 from
-    ∙ rw (c.??put_all_lem.ensures, lent_tail room from)
+    back_tail room c.put_all.new.part from
+    ∙ rw (c.put_all.ensures, lent_tail room from)
     (sym (puts_drop room from (a.at % 8) (edge_widths a.p a.e) a.edges.now c.requires.reaches)
     ∙ ap (λ (k : ℕ). put_fields room k (edge_widths a.p a.e) a.edges.now) at)

@@ -1,33 +1,23 @@
 use mathlib.Core.Path.{◌≡◌, ap, sym, ◌∙◌}
 use mathlib.Core.List.{List, ◌∷◌}
-use mathlib.Core.Logic.{⊎_elim}
 use mathlib.Core.Option.{Option, none, some}
-use Prim.Native.Nat.{ℕ, ◌+◌, ◌*◌, ◌-◌, ◌/◌, ◌≤◌}
+use Prim.Native.Nat.{suc, ◌+◌, ◌*◌, ◌/◌}
 use native.Mathlib.Numerals.{add-one}
 use native.Mathlib.Omega.{arith}
 use borrow.Author.Rules.{rules}
 use lib.ListN.{length, drop}
 use Rattle.meaning.specs.Filter.{Edge}
-use Rattle.layout.specs.declared.FaultColour.{FaultColour}
 use Rattle.layout.specs.declared.edge.Placed.{Placed}
 use Rattle.layout.specs.Layout.{colour_of, threes}
 use Rattle.layout.specs.Code.{edge_of}
 use Rattle.layout.proofs.EdgeLists.{threes-cons, threes_end}
 use Rattle.edges.specs.declared.Verdict.{Verdict}
 use Rattle.edges.specs.Faults.{listed_at, listed_from, Fault, faulty, edge_fault, or_else, first_fault, first_leaving}
-use Rattle.edges.specs.Walk.{fault_of, Ranked}
+use Rattle.edges.specs.Walk.{fault_of}
 use Rattle.edges.proofs.Tests.{ranked_none, ranked_edge, clear_ends, fault_here, fault_next, else_else, else_none}
 use Rattle.edges.proofs.Leaving.{leaving_here, leaving_next}
 use Rattle.packing.proofs.test_list.Goals as goal
-use Rattle.packing.proofs.test_list.Goals.{After-edge_in-edge, Joined-leaves}
-
-record Left (fault : FaultColour) (colours edges : List ℕ) (m e : ℕ) (found : Verdict) (last i : ℕ) : Type 0 where
-  inside : i ≤ e
-  before : Option Edge
-  ranked : Ranked last before
-  left : first_fault (length colours) m none (listed_from 0 (threes edges)) ≡ first_fault (length colours) m before (listed_from i (threes (drop (3 * i) edges)))
-  leaving : first_leaving (colour_of fault) colours (listed_from 0 (threes edges))
-      ≡ or_else (fault_of found) (first_leaving (colour_of fault) colours (listed_from i (threes (drop (3 * i) edges))))
+use Rattle.packing.proofs.test_list.Goals.{After-edge_in-edge, After-test-verdict, Joined-leaves, then-leaves, else-leaves}
 
 pub loop-i-init : goal.loop-i-init
 loop-i-init c = record { inside = omega arith; before = none; ranked = ranked_none; left = search rules; leaving = search rules }
@@ -41,23 +31,30 @@ unfolding listed_from
 here c =
     let i = c.loop-i.i in
     let edges = c.args.edges.now in
-    rw (threes-cons edges (3 * i) (omega arith), c.edge_in-edge.ensures.0, add-one i)
+    rw (threes-cons edges (3 * i) (omega arith), add-one i)
+    (ap (λ (e : Edge). listed_at i e ∷ listed_from (suc i) (threes (drop (3 * i + 3) edges))) (sym c.edge_in-edge.ensures.0))
 
 pub test-verdict-requires : goal.test-verdict-requires
 test-verdict-requires c = rw c.listed.ensures c.edge_in-edge.ensures.1
 
+-- what the test found is the edge's fault
+verdict_is : (c : After-test-verdict) →
+    let a = c.args in
+    edge_fault (length a.colours.now) a.m c.loop-i.invariant.before (listed_at c.loop-i.i (edge_of c.edge_in-edge.result)) ≡ fault_of c.test-verdict.result
+verdict_is c =
+    let inv = c.loop-i.invariant in
+    sym (rw c.listed.ensures at (c.test-verdict.ensures inv.before inv.ranked))
+
 pub returns-in_default : goal.returns-in_default
 returns-in_default c =
     let inv = c.loop-i.invariant in
-    let g = ap fault_of c.enum_told-in_default-1.given.1 in
-    let first = inv.left ∙ ap (first_fault _ _ inv.before) (here (goal.at.returns-in_default c).After-edge_in-edge) ∙ fault_here _ _ inv.before (listed_at _ (edge_of c.edge_in-edge.result)) _ _ ((let it : let a = c.args in edge_fault (length a.colours.now) a.m c.loop-i.invariant.before (listed_at c.loop-i.i (edge_of c.edge_in-edge.result)) ≡ fault_of c.test-verdict.result = let inv = c.loop-i.invariant in
-    sym (rw c.listed.ensures at (c.test-verdict.ensures inv.before inv.ranked)) in it) ∙ g) in
+    let g = ap fault_of c.in_default.is in
+    let first = inv.left ∙ ap (first_fault _ _ inv.before) (here (goal.at.returns-in_default c).After-edge_in-edge) ∙ fault_here _ _ inv.before (listed_at _ (edge_of c.edge_in-edge.result)) _ _ (verdict_is (goal.at.returns-in_default c).After-test-verdict ∙ g) in
     rw first g
 
 pub leaves-requires : goal.leaves-requires
 leaves-requires c =
-    clear_ends _ _ _ (listed_at _ (edge_of c.edge_in-edge.result)) ((let it : let a = c.args in edge_fault (length a.colours.now) a.m c.loop-i.invariant.before (listed_at c.loop-i.i (edge_of c.edge_in-edge.result)) ≡ fault_of c.test-verdict.result = let inv = c.loop-i.invariant in
-    sym (rw c.listed.ensures at (c.test-verdict.ensures inv.before inv.ranked)) in it) ∙ ap fault_of c.enum_told-1.given.1)
+    clear_ends _ _ _ (listed_at _ (edge_of c.edge_in-edge.result)) (verdict_is (goal.at.leaves-requires c).After-test-verdict ∙ ap fault_of c.in-Faultless.is)
 
 -- the edge is remembered if it leaves the fault colour and no edge before it does
 remembered : (c : Joined-leaves) (es : List Placed) →
@@ -72,20 +69,19 @@ remembered c es =
     let colours = a.colours.now in
     let edge = listed_at loop.i (edge_of c.edge_in-edge.result) in
     let was = fault_of loop.found in
-    ⊎_elim
-    (λ w. ap (or_else was) (leaving_here fault colours edge es (sym c.leaves.ensures ∙ w.0.taken))
-    ∙ else_else was (faulty 17 edge.source) (first_leaving fault colours es)
-    ∙ ap (λ (f : Option Fault). or_else f (first_leaving fault colours es)) (sym (ap fault_of w.2 ∙ w.1.ensures)))
-    (λ w. ap (or_else was) (leaving_next fault colours edge es (sym c.leaves.ensures ∙ w.0.left))
-    ∙ ap (λ (v : Verdict). or_else (fault_of v) (first_leaving fault colours es)) (sym w.1))
-    c.if-leaves.branch
+    elim c.if-leaves.branch [
+      | then-leaves w ↦ ap (or_else was) (leaving_here fault colours edge es (sym c.leaves.ensures ∙ w.if-leaves.true))
+          ∙ else_else was (faulty 17 edge.source) (first_leaving fault colours es)
+          ∙ ap (λ (f : Option Fault). or_else f (first_leaving fault colours es)) (sym (ap fault_of w.found-is ∙ w.or_leaving-found.ensures))
+      | else-leaves w ↦ ap (or_else was) (leaving_next fault colours edge es (sym c.leaves.ensures ∙ w.if-leaves.false))
+          ∙ ap (λ (v : Verdict). or_else (fault_of v) (first_leaving fault colours es)) (sym w.found-is)
+    ]
 
 pub loop-i-preserved : goal.loop-i-preserved
 loop-i-preserved c =
     let loop = c.loop-i in
     let edge = edge_of c.edge_in-edge.result in
-    let clear = (let it : let a = c.args in edge_fault (length a.colours.now) a.m c.loop-i.invariant.before (listed_at c.loop-i.i (edge_of c.edge_in-edge.result)) ≡ fault_of c.test-verdict.result = let inv = c.loop-i.invariant in
-    sym (rw c.listed.ensures at (c.test-verdict.ensures inv.before inv.ranked)) in it) ∙ ap fault_of c.enum_told-1.given.1 in
+    let clear = verdict_is (goal.at.loop-i-preserved c).After-test-verdict ∙ ap fault_of c.in-Faultless.is in
     let next : 3 * (loop.i + 1) ≡ 3 * loop.i + 3 = omega arith in
     record {
       inside = omega arith;

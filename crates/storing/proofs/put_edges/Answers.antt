@@ -19,6 +19,6 @@ returns c =
     let from = a.bit / 8 in
     let es : List Edge = edges_of (table a.targets.now a.labels.now) a.order.now a.list.now 64 in
     let at : from * 8 + a.bit % 8 ≡ a.bit = omega arith in
-    back_tail room c.put_rows.new.1.0 from
+    back_tail room c.put_rows.new.part from
     ∙ rw (c.put_rows.ensures, lent_tail room from)
-    (sym (puts_drop room from (a.bit % 8) (edge_widths a.p (length es)) (flat es) c.requires.1) ∙ ap (λ (k : ℕ). put_edges a.p room k es) at)
+    (sym (puts_drop room from (a.bit % 8) (edge_widths a.p (length es)) (flat es) c.requires.bit_in_bounds) ∙ ap (λ (k : ℕ). put_edges a.p room k es) at)

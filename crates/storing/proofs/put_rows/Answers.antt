@@ -1,5 +1,5 @@
 use mathlib.Core.Path.{◌≡◌, ◌∙◌}
-use Prim.Native.Nat.{◌-◌, ◌≤◌}
+use Prim.Native.Nat.{◌≤◌}
 use native.Mathlib.Nat.{le_antisymm}
 use native.Mathlib.Omega.{arith}
 use lib.ListN.{length}
@@ -18,17 +18,17 @@ pub put_row-pen-requires : goal.put_row-pen-requires
 put_row-pen-requires c =
     let loop = c.loop-k in
     let pre = c.requires in
-    let few : loop.k ≤ 256 = omega (arith, loop.invariant.0, pre.0.states, states-pow _ pre.0.usable) in
+    let few : loop.k ≤ 256 = omega (arith, loop.invariant.0, pre.storable.states, states-pow _ pre.storable.usable) in
     record {
-      rows = pre.0;
+      rows = pre.storable;
       state = c.loop-k-test.true;
       ready = loop.invariant.1.ready;
-      near = omega (arith, listed_near _ loop.k pre.0.usable loop.invariant.1 few, pre.1);
+      near = omega (arith, listed_near _ loop.k pre.storable.usable loop.invariant.1 few, pre.bit_bound);
     }
 
 pub overflow_add-k : goal.overflow_add-k
 overflow_add-k c =
-    let can = c.requires.0 in
+    let can = c.requires.storable in
     omega (arith, c.loop-k-test.true, can.states, states-pow _ can.usable)
 
 pub loop-k-preserved : goal.loop-k-preserved
@@ -48,4 +48,4 @@ pub finish-requires : goal.finish-requires
 finish-requires c = c.loop-k.invariant.1.ready
 
 pub shape_of-part : goal.shape_of-part
-shape_of-part c = c.finish.auto.0 ∙ drawn-length c.loop-k.invariant.1
+shape_of-part c = c.finish.auto.s ∙ drawn-length c.loop-k.invariant.1

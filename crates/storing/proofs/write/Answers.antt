@@ -2,117 +2,141 @@
 -- Assumes nothing.
 use mathlib.Core.Path.{◌≡◌, sym, ap, ap₂, ◌∙◌}
 use mathlib.Core.Bool.{true}
-use mathlib.Core.List.{List, ◌∷◌}
+use mathlib.Core.List.{List, ◌∷◌, []}
 use Prim.Native.Nat.{ℕ, ◌≤◌}
 use native.Mathlib.Nat.{mul_comm}
 use native.Mathlib.Omega.{arith}
-use lib.ListN.{length}
+use borrow.Author.Rules.{rules}
+use lib.ListN.{length, replicate}
 use Rattle.bits.specs.Bits.{Bytes, put_field}
+use Rattle.pen.specs.Runs.{put_fields}
 use Rattle.meaning.specs.Search.{at}
 use Rattle.meaning.proofs.Traced.{opt}
-use Rattle.layout.specs.Layout.{header_bits, edges_begin, file_bits, bytes_for, file_length, fill_bits, length_of, put_edges}
-use Rattle.layout.specs.Code.{Usable}
+use Rattle.meaning.specs.Listing.{cells}
+use Rattle.sets.specs.Sets.{holds}
+use Rattle.layout.specs.declared.Profile.{Profile}
+use Rattle.layout.specs.Layout.{header_widths, header_values, header_bits, edges_begin, file_bits, bytes_for, file_length, fill_bits, length_of, put_edges}
 use Rattle.layout.proofs.Bounds.{colours_high}
 use Rattle.files.specs.Tests.{Written, write_written}
 use Rattle.files.specs.Written.{header_fit, colours_fit, states≤256, written-laid}
-use Rattle.table.specs.Table.{table, look}
-use Rattle.storing.specs.Stored.{led, edges_of, stored}
+use Rattle.table.specs.Table.{Table, table, look}
+use Rattle.storing.specs.Stored.{led, edges_of, stored, Fileable}
 use Rattle.storing.proofs.Laws.{led_none, listed-counted, listed-short}
 use Rattle.storing.proofs.write.Goals as goal
 
+module _ {p : Profile} {T : Table} {order list colours : List ℕ} {m start room : ℕ} (h : Fileable p T order list colours m start room) where
+  passed : Written p (stored T order list colours m start) true room (length_of p (stored T order list colours m start) ∷ [])
+  passed = write_written p (stored T order list colours m start) true room _ h.packable
+
+  -- the states are as many as the colours
+  count : length colours ≡ length order
+  count = sym h.coloured
+
+  count≤256 : length order ≤ 256
+  count≤256 = rw (← count) (states≤256 p h.rows.usable (stored T order list colours m start) passed.writable)
+
+  -- the edges at all labels are those at the labels below m
+  short : edges_of T order list 64 ≡ edges_of T order list m
+  short = listed-short _ (length order) m h.labels λ k y i l.
+      opt (look T (at order k) y)
+      (λ e. ap (led list) e ∙ led_none list)
+      (λ t e. absurd (omega (arith, h.rows.label k y t i e)))
+
+  -- the edges are as many as were counted
+  counted : (e : ℕ) → e ≡ cells (λ k y. holds (at T.labels (at order k)) y) (length order) 64 → e ≡ length (edges_of T order list m)
+  counted e is = is ∙ listed-counted T order list _ ∙ ap length short
+
+-- header, colours, edges and filling of n states with e edges
+abbrev all : Profile → Table → List ℕ → List ℕ → List ℕ → ℕ → ℕ → List ℕ → ℕ → ℕ → List ℕ
+all p T order list colours m start room n e =
+    let header = put_fields room 0 (header_widths p) (header_values n m start e) in
+    let coloured = put_fields header (header_bits p) (replicate n p.colour) colours in
+    put_field (put_edges p coloured (edges_begin p n) (edges_of T order list m)) (file_bits p n e) (fill_bits p n e) 0
+
 pub edge_count-e-requires : goal.edge_count-e-requires
 edge_count-e-requires c =
-    ((let it : length c.args.order.now ≤ 256 = rw (← (let it : length ((stored ((table c.args.targets.now c.args.labels.now)) c.args.order.now c.args.list.now c.args.colours.now c.args.m c.args.start)).colours ≡ length c.args.order.now = sym c.requires.coloured in it)) (states≤256 c.args.p c.requires.rows.usable ((stored ((table c.args.targets.now c.args.labels.now)) c.args.order.now c.args.list.now c.args.colours.now c.args.m c.args.start)) ((let it : Written c.args.p ((stored ((table c.args.targets.now c.args.labels.now)) c.args.order.now c.args.list.now c.args.colours.now c.args.m c.args.start)) true (length c.args.room.now) (length_of c.args.p ((stored ((table c.args.targets.now c.args.labels.now)) c.args.order.now c.args.list.now c.args.colours.now c.args.m c.args.start)) ∷ []) = write_written c.args.p ((stored ((table c.args.targets.now c.args.labels.now)) c.args.order.now c.args.list.now c.args.colours.now c.args.m c.args.start)) true (length c.args.room.now) _ c.requires.packable in it)).writable) in it), λ k h. omega (arith, (c.requires.rows.rows k h).labels_long))
+    (count≤256 c.requires, λ k h. omega (arith, (c.requires.rows.rows k h).labels_long))
 
 pub put-requires : goal.put-requires
 put-requires c =
-    let w = ((let it : Written c.args.p ((stored ((table c.args.targets.now c.args.labels.now)) c.args.order.now c.args.list.now c.args.colours.now c.args.m c.args.start)) true (length c.args.room.now) (length_of c.args.p ((stored ((table c.args.targets.now c.args.labels.now)) c.args.order.now c.args.list.now c.args.colours.now c.args.m c.args.start)) ∷ []) = write_written c.args.p ((stored ((table c.args.targets.now c.args.labels.now)) c.args.order.now c.args.list.now c.args.colours.now c.args.m c.args.start)) true (length c.args.room.now) _ c.requires.packable in it)).writable in
+    let a = c.args in
+    let w = (passed c.requires).writable in
     let ok = c.requires.rows.usable in
+    let F = stored (table a.targets.now a.labels.now) a.order.now a.list.now a.colours.now a.m a.start in
     record {
       usable = ok;
-      fit = rw (
-        (let it : length ((stored ((table c.args.targets.now c.args.labels.now)) c.args.order.now c.args.list.now c.args.colours.now c.args.m c.args.start)).colours ≡ length c.args.order.now = sym c.requires.coloured in it),
-        ← (let it : c.??IsEdge-count.result ≡ length ((stored ((table c.args.targets.now c.args.labels.now)) c.args.order.now c.args.list.now c.args.colours.now c.args.m c.args.start)).edges = let a = c.args in
-            c.??IsEdge-count.ensures.1 ∙ listed-counted ((table c.args.targets.now c.args.labels.now)) a.order.now a.list.now _ ∙ ap length ((let it : edges_of ((table c.args.targets.now c.args.labels.now)) c.args.order.now c.args.list.now 64 ≡ ((stored ((table c.args.targets.now c.args.labels.now)) c.args.order.now c.args.list.now c.args.colours.now c.args.m c.args.start)).edges = listed-short _ (length c.args.order.now) c.args.m c.requires.labels λ k y h l.
-            opt (look ((table c.args.targets.now c.args.labels.now)) (at c.args.order.now k) y)
-            (λ e. ap (led c.args.list.now) e ∙ led_none c.args.list.now)
-            (λ t e. absurd (omega (arith, c.requires.rows.label k y t h e))) in it)) in it),
-      ) at (header_fit c.args.p ok ((stored ((table c.args.targets.now c.args.labels.now)) c.args.order.now c.args.list.now c.args.colours.now c.args.m c.args.start)) w);
-      states = rw ((let it : length ((stored ((table c.args.targets.now c.args.labels.now)) c.args.order.now c.args.list.now c.args.colours.now c.args.m c.args.start)).colours ≡ length c.args.order.now = sym c.requires.coloured in it)) at w.states_low;
+      fit = rw (count c.requires, ← counted c.requires _ c.edge_count-e.ensures.1) at (header_fit a.p ok F w);
+      states = rw (count c.requires) at w.states_low;
       labels = w.labels_low;
     }
 
 pub put_run-requires : goal.put_run-requires
 put_run-requires c =
-    let p = c.args.p in
+    let a = c.args in
+    let p = a.p in
     let ok = c.requires.rows.usable in
-    let n = length c.args.colours.now in
-    let high = colours_high p ok n (omega (arith, (let it : length ((stored ((table c.args.targets.now c.args.labels.now)) c.args.order.now c.args.list.now c.args.colours.now c.args.m c.args.start)).colours ≡ length c.args.order.now = sym c.requires.coloured in it), (let it : length c.args.order.now ≤ 256 = rw (← (let it : length ((stored ((table c.args.targets.now c.args.labels.now)) c.args.order.now c.args.list.now c.args.colours.now c.args.m c.args.start)).colours ≡ length c.args.order.now = sym c.requires.coloured in it)) (states≤256 c.args.p c.requires.rows.usable ((stored ((table c.args.targets.now c.args.labels.now)) c.args.order.now c.args.list.now c.args.colours.now c.args.m c.args.start)) ((let it : Written c.args.p ((stored ((table c.args.targets.now c.args.labels.now)) c.args.order.now c.args.list.now c.args.colours.now c.args.m c.args.start)) true (length c.args.room.now) (length_of c.args.p ((stored ((table c.args.targets.now c.args.labels.now)) c.args.order.now c.args.list.now c.args.colours.now c.args.m c.args.start)) ∷ []) = write_written c.args.p ((stored ((table c.args.targets.now c.args.labels.now)) c.args.order.now c.args.list.now c.args.colours.now c.args.m c.args.start)) true (length c.args.room.now) _ c.requires.packable in it)).writable) in it))) in
+    let n = length a.colours.now in
+    let high = colours_high p ok n (omega (arith, count c.requires, count≤256 c.requires)) in
     record {
       narrow = ok.colour≤;
       near = omega (arith, c.header_bits.ensures.1, mul_comm n p.colour, high);
-      small = colours_fit p ok ((stored ((table c.args.targets.now c.args.labels.now)) c.args.order.now c.args.list.now c.args.colours.now c.args.m c.args.start)) ((let it : Written c.args.p ((stored ((table c.args.targets.now c.args.labels.now)) c.args.order.now c.args.list.now c.args.colours.now c.args.m c.args.start)) true (length c.args.room.now) (length_of c.args.p ((stored ((table c.args.targets.now c.args.labels.now)) c.args.order.now c.args.list.now c.args.colours.now c.args.m c.args.start)) ∷ []) = write_written c.args.p ((stored ((table c.args.targets.now c.args.labels.now)) c.args.order.now c.args.list.now c.args.colours.now c.args.m c.args.start)) true (length c.args.room.now) _ c.requires.packable in it)).writable;
+      small = colours_fit p ok (stored (table a.targets.now a.labels.now) a.order.now a.list.now a.colours.now a.m a.start) (passed c.requires).writable;
     }
 
 pub edges_begin-requires : goal.edges_begin-requires
-edges_begin-requires c =
-    (c.requires.rows.usable, (let it : length c.args.order.now ≤ 256 = rw (← (let it : length ((stored ((table c.args.targets.now c.args.labels.now)) c.args.order.now c.args.list.now c.args.colours.now c.args.m c.args.start)).colours ≡ length c.args.order.now = sym c.requires.coloured in it)) (states≤256 c.args.p c.requires.rows.usable ((stored ((table c.args.targets.now c.args.labels.now)) c.args.order.now c.args.list.now c.args.colours.now c.args.m c.args.start)) ((let it : Written c.args.p ((stored ((table c.args.targets.now c.args.labels.now)) c.args.order.now c.args.list.now c.args.colours.now c.args.m c.args.start)) true (length c.args.room.now) (length_of c.args.p ((stored ((table c.args.targets.now c.args.labels.now)) c.args.order.now c.args.list.now c.args.colours.now c.args.m c.args.start)) ∷ []) = write_written c.args.p ((stored ((table c.args.targets.now c.args.labels.now)) c.args.order.now c.args.list.now c.args.colours.now c.args.m c.args.start)) true (length c.args.room.now) _ c.requires.packable in it)).writable) in it))
+edges_begin-requires c = (c.requires.rows.usable, count≤256 c.requires)
 
 pub put_edges-requires : goal.put_edges-requires
 unfolding length_of file_length bytes_for file_bits
 put_edges-requires c =
-    let start = start₁ c in
-    let can = start.pre.rows in
-    let same : length c.put_run.new.0 ≡ length start.args.room.now = c.put_run.auto.0 ∙ c.put.auto.1.0 in (
-      record {
+    let can = c.requires.rows in
+    let same : length c.put_run.new.s ≡ length c.args.room.now = c.put_run.auto.s ∙ c.put.auto.room in
+    record {
+      storable = record {
         usable = can.usable;
         states = can.states;
         rows = can.rows;
-        label = λ k y t h e. omega (arith, can.label k y t h e, (passed start).writable.labels_high);
+        label = λ k y t h e. omega (arith, can.label k y t h e, (passed c.requires).writable.labels_high);
         in_list = can.in_list;
         target = can.target;
-      },
-      omega (arith, same, c.edges_begin.ensures.0, rw (count start) at (passed start).roomy),
-    )
+      };
+      bit_in_bounds = omega (arith, same, c.edges_begin.ensures.0, rw (count c.requires) at (passed c.requires).roomy);
+    }
 
+-- states and edges are few enough for the code's sums
 pub fill-requires : goal.fill-requires
-fill-requires c = (let it : Usable c.args.p × (length c.args.order.now ≤ 256) × (c.??IsEdge-count.result ≤ 65536) = (c.requires.rows.usable, (let it : length c.args.order.now ≤ 256 = rw (← (let it : length ((stored ((table c.args.targets.now c.args.labels.now)) c.args.order.now c.args.list.now c.args.colours.now c.args.m c.args.start)).colours ≡ length c.args.order.now = sym c.requires.coloured in it)) (states≤256 c.args.p c.requires.rows.usable ((stored ((table c.args.targets.now c.args.labels.now)) c.args.order.now c.args.list.now c.args.colours.now c.args.m c.args.start)) ((let it : Written c.args.p ((stored ((table c.args.targets.now c.args.labels.now)) c.args.order.now c.args.list.now c.args.colours.now c.args.m c.args.start)) true (length c.args.room.now) (length_of c.args.p ((stored ((table c.args.targets.now c.args.labels.now)) c.args.order.now c.args.list.now c.args.colours.now c.args.m c.args.start)) ∷ []) = write_written c.args.p ((stored ((table c.args.targets.now c.args.labels.now)) c.args.order.now c.args.list.now c.args.colours.now c.args.m c.args.start)) true (length c.args.room.now) _ c.requires.packable in it)).writable) in it), omega (arith, c.??IsEdge-count.ensures.0)) in it)
+fill-requires c = (c.requires.rows.usable, count≤256 c.requires, omega (arith, c.edge_count-e.ensures.0))
 
 pub file_bits-requires : goal.file_bits-requires
-file_bits-requires c = (let it : Usable c.args.p × (length c.args.order.now ≤ 256) × (c.??IsEdge-count.result ≤ 65536) = (c.requires.rows.usable, (let it : length c.args.order.now ≤ 256 = rw (← (let it : length ((stored ((table c.args.targets.now c.args.labels.now)) c.args.order.now c.args.list.now c.args.colours.now c.args.m c.args.start)).colours ≡ length c.args.order.now = sym c.requires.coloured in it)) (states≤256 c.args.p c.requires.rows.usable ((stored ((table c.args.targets.now c.args.labels.now)) c.args.order.now c.args.list.now c.args.colours.now c.args.m c.args.start)) ((let it : Written c.args.p ((stored ((table c.args.targets.now c.args.labels.now)) c.args.order.now c.args.list.now c.args.colours.now c.args.m c.args.start)) true (length c.args.room.now) (length_of c.args.p ((stored ((table c.args.targets.now c.args.labels.now)) c.args.order.now c.args.list.now c.args.colours.now c.args.m c.args.start)) ∷ []) = write_written c.args.p ((stored ((table c.args.targets.now c.args.labels.now)) c.args.order.now c.args.list.now c.args.colours.now c.args.m c.args.start)) true (length c.args.room.now) _ c.requires.packable in it)).writable) in it), omega (arith, c.??IsEdge-count.ensures.0)) in it)
+file_bits-requires c = (c.requires.rows.usable, count≤256 c.requires, omega (arith, c.edge_count-e.ensures.0))
 
 pub returns : goal.returns
 unfolding length_of file_length
 returns c =
-    let start = start₁ counting in
-    let p = start.args.p in
-    let room = start.args.room.now in
-    let colours = start.args.colours.now in
-    let n = length start.args.order.now in
-    let e = c.??IsEdge-count.result in
-    let bytes : Bytes room = λ i. omega (arith, c.slice_known-1.given i) in
-    let written : c.fill.new.1.0 ≡ all start n e =
+    let a = c.args in
+    let p = a.p in
+    let room = a.room.now in
+    let T = table a.targets.now a.labels.now in
+    let F = stored T a.order.now a.list.now a.colours.now a.m a.start in
+    let n = length a.order.now in
+    let e = c.edge_count-e.result in
+    let is = counted c.requires e c.edge_count-e.ensures.1 in
+    let bytes : Bytes room = search rules in
+    let written : c.fill.new.room ≡ all p T a.order.now a.list.now a.colours.now a.m a.start room n e =
     c.fill.ensures
     ∙ ap (λ (s : List ℕ). put_field s (file_bits p n e) (fill_bits p n e) 0)
     (c.put_edges.ensures
     ∙ rw (
-      short start,
+      short c.requires,
       c.edges_begin.ensures.0,
       c.put_run.ensures,
       c.put.ensures,
       c.header_bits.ensures.0,
-      count start,
-    )) in (
-      written
-          ∙ ap₂ (all start) (sym (count start)) ((let it : c.??IsEdge-count.result ≡ length ((stored ((table c.args.targets.now c.args.labels.now)) c.args.order.now c.args.list.now c.args.colours.now c.args.m c.args.start)).edges = let a = c.args in
-          c.??IsEdge-count.ensures.1 ∙ listed-counted ((table c.args.targets.now c.args.labels.now)) a.order.now a.list.now _ ∙ ap length ((let it : edges_of ((table c.args.targets.now c.args.labels.now)) c.args.order.now c.args.list.now 64 ≡ ((stored ((table c.args.targets.now c.args.labels.now)) c.args.order.now c.args.list.now c.args.colours.now c.args.m c.args.start)).edges = listed-short _ (length c.args.order.now) c.args.m c.requires.labels λ k y h l.
-          opt (look ((table c.args.targets.now c.args.labels.now)) (at c.args.order.now k) y)
-          (λ e. ap (led c.args.list.now) e ∙ led_none c.args.list.now)
-          (λ t e. absurd (omega (arith, c.requires.rows.label k y t h e))) in it)) in it))
-          ∙ written-laid p start.pre.rows.usable (F start) (passed start).writable room bytes (passed start).roomy,
-      c.bytes_for.ensures ∙ ap bytes_for (c.file_bits.ensures.0 ∙ ap₂ (file_bits p) (sym (count start)) ((let it : c.??IsEdge-count.result ≡ length ((stored ((table c.args.targets.now c.args.labels.now)) c.args.order.now c.args.list.now c.args.colours.now c.args.m c.args.start)).edges = let a = c.args in
-          c.??IsEdge-count.ensures.1 ∙ listed-counted ((table c.args.targets.now c.args.labels.now)) a.order.now a.list.now _ ∙ ap length ((let it : edges_of ((table c.args.targets.now c.args.labels.now)) c.args.order.now c.args.list.now 64 ≡ ((stored ((table c.args.targets.now c.args.labels.now)) c.args.order.now c.args.list.now c.args.colours.now c.args.m c.args.start)).edges = listed-short _ (length c.args.order.now) c.args.m c.requires.labels λ k y h l.
-          opt (look ((table c.args.targets.now c.args.labels.now)) (at c.args.order.now k) y)
-          (λ e. ap (led c.args.list.now) e ∙ led_none c.args.list.now)
-          (λ t e. absurd (omega (arith, c.requires.rows.label k y t h e))) in it)) in it))),
-    )
+      count c.requires,
+    )) in
+    record {
+      bytes = written
+          ∙ ap₂ (all p T a.order.now a.list.now a.colours.now a.m a.start room) (sym (count c.requires)) is
+          ∙ written-laid p c.requires.rows.usable F (passed c.requires).writable room bytes (passed c.requires).roomy;
+      length = c.bytes_for.ensures ∙ ap bytes_for (c.file_bits.ensures.0 ∙ ap₂ (file_bits p) (sym (count c.requires)) is);
+    }
