@@ -1,127 +1,115 @@
 -- `merging::merged` meets its contract. Assumes nothing.
 use mathlib.Core.Path.{◌≡◌, sym, ap, ◌∙◌, subst}
-use Prim.Native.Nat.{◌≤◌}
+use mathlib.Core.List.{List}
+use Prim.Native.Nat.{ℕ, ◌≤◌}
 use native.Mathlib.Omega.{arith}
 use lib.ListN.{length, take}
+use Rattle.meaning.specs.Search.{at, tab}
 use Rattle.meaning.specs.SearchLaws.{length-tab}
 use Rattle.meaning.specs.Filter.{Filter}
+use Rattle.meaning.specs.Classes.{classes}
+use Rattle.meaning.specs.Reduced.{name_of}
+use Rattle.layout.specs.declared.Profile.{Profile}
+use Rattle.layout.specs.declared.Reading.{Reading}
 use Rattle.layout.specs.Layout.{length_of, written}
 use Rattle.refusals.specs.Refusals.{laid}
-use Rattle.table.specs.Table.{table}
+use Rattle.numbering.specs.Names.{new_number}
+use Rattle.table.specs.Table.{Table, table}
 use Rattle.storing.specs.Stored.{stored, Packable}
+use Rattle.merging.specs.Merged.{Gathered, merged_by, Foldable}
 use Rattle.merging.proofs.Making.{ordered, take-laid, few_classes, no_edge, order_long, named_low, Ready, numbers_laid, can_store, hues_long, filter_made}
 use Rattle.merging.proofs.merged.Goals as goal
+use Rattle.merging.proofs.merged.Goals.{After-colours_by}
+
+module _ {p : Profile} {T₀ : Table} {colours names : List ℕ} {r : Reading} {answer room : ℕ} (can : Foldable p T₀ colours names r answer room) where
+  few : (k : ℕ) → k ≡ classes r.states (take r.states names) → k ≤ 256
+  few k e = omega (arith, e, few_classes can)
+
+  -- the room for the order begins with the names of the classes
+  module _ (k : ℕ) (order₀ order₁ : List ℕ) (k_is : k ≡ classes r.states (take r.states names)) (laid_is : order₁ ≡ laid (ordered r.states (take r.states names)) order₀) where
+    order_is : take k order₁ ≡ ordered r.states (take r.states names)
+    order_is = take-laid _ _ _ _ laid_is (k_is ∙ sym (length-tab _ _))
+
+    count_is : k ≡ length (take k order₁)
+    count_is = k_is ∙ sym (order_long can order_is)
+
+  -- what is written is the filter of the classes
+  filter_of : {T : Table} {order list hues : List ℕ} {start : ℕ} → Ready can T order list hues → start ≡ at list r.start →
+      stored T order list hues r.labels start ≡ merged_by T₀ colours names r
+  filter_of {T} {order} {list} {hues} ready e = ap (stored T order list hues r.labels) e ∙ filter_made can ready
+
+-- what the steps before the writing have made
+made : (c : After-colours_by) →
+    Ready c.requires (table c.gather.new.targets c.gather.new.labels) (take c.numbered-count.result c.numbered-count.new.order) c.numbered-count.new.list
+    (take c.numbered-count.result c.colours_by.new.hues)
+made c =
+    let k = c.numbered-count.result in
+    let numbered = c.numbered-count.ensures in
+    record {
+      order_is = order_is c.requires k _ c.numbered-count.new.order numbered.count numbered.names;
+      numbers = numbers_laid c.requires c.numbered-count.new.list c.args.list.now numbered.list;
+      long = omega (arith, c.numbered-count.auto.list, c.requires.list_room);
+      gathered = c.gather.ensures;
+      hues_are = take-laid _ _ _ _ c.colours_by.ensures (count_is c.requires k _ c.numbered-count.new.order numbered.count numbered.names ∙ sym (length-tab _ _));
+    }
 
 pub gather-requires : goal.gather-requires
 gather-requires c =
     let can = c.requires in
-    ((can.named, can.rows), no_edge can)
+    record { names = (can.named, can.rows); by_index = no_edge can }
+
+pub slice_bounds-order-end : goal.slice_bounds-order-end
+slice_bounds-order-end c = omega (arith, few c.requires _ c.numbered-count.ensures.count, c.numbered-count.auto.order, c.fresh-order.ensures.1)
+
+pub slice_bounds-order-end-2 : goal.slice_bounds-order-end-2
+slice_bounds-order-end-2 c = omega (arith, few c.requires _ c.numbered-count.ensures.count, c.numbered-count.auto.order, c.fresh-order.ensures.1)
+
+pub slice_bounds-colours_by-end : goal.slice_bounds-colours_by-end
+slice_bounds-colours_by-end c =
+    count_is c.requires _ _ c.numbered-count.new.order c.numbered-count.ensures.count c.numbered-count.ensures.names
 
 pub colours_by-requires : goal.colours_by-requires
-colours_by-requires c = (
-  (
-    omega (
-      arith,
-      (let it : c.numbered-count.result ≤ 256 = omega (arith, c.numbered-count.ensures.1.0, few_classes c.requires) in it),
-      (let it : c.numbered-count.result ≡ length ((take c.numbered-count.result c.numbered-count.new.1.1.1.0)) = c.numbered-count.ensures.1.0 ∙ sym (order_long c.requires ((let it : (take c.numbered-count.result c.numbered-count.new.1.1.1.0) ≡ ordered c.args.reading.states (take c.args.reading.states c.args.names.now) = let made = c.numbered-count.ensures.1 in
-          take-laid _ _ _ _ made.1 (made.0 ∙ sym (length-tab _ _)) in it))) in it),
-      c.zero_bytes-hues.ensures.1,
-    ),
-    c.requires.colours_long,
-  ),
-  named_low c.requires ((let it : (take c.numbered-count.result c.numbered-count.new.1.1.1.0) ≡ ordered c.args.reading.states (take c.args.reading.states c.args.names.now) = let made = c.numbered-count.ensures.1 in
-      take-laid _ _ _ _ made.1 (made.0 ∙ sym (length-tab _ _)) in it)),
-)
+colours_by-requires c =
+    let k = c.numbered-count.result in
+    let numbered = c.numbered-count.ensures in
+    let is = count_is c.requires k _ c.numbered-count.new.order numbered.count numbered.names in
+    record {
+      order_in_bounds = (omega (arith, few c.requires k numbered.count, is, c.zero_bytes-hues.ensures.1), c.requires.colours_long);
+      by_index = named_low c.requires (order_is c.requires k _ c.numbered-count.new.order numbered.count numbered.names);
+    }
 
 pub slice_bounds-hues-end : goal.slice_bounds-hues-end
 slice_bounds-hues-end c =
-    omega (arith, (let it : c.numbered-count.result ≤ 256 = omega (arith, c.numbered-count.ensures.1.0, few_classes c.requires) in it), c.colours_by.auto.1.1.0, c.zero_bytes-hues.ensures.1)
+    omega (arith, few c.requires _ c.numbered-count.ensures.count, c.colours_by.auto.hues, c.zero_bytes-hues.ensures.1)
 
 pub slice_bounds-write-end : goal.slice_bounds-write-end
-slice_bounds-write-end c = (let it : c.numbered-count.result ≡ length ((take c.numbered-count.result c.numbered-count.new.1.1.1.0)) = c.numbered-count.ensures.1.0 ∙ sym (order_long c.requires ((let it : (take c.numbered-count.result c.numbered-count.new.1.1.1.0) ≡ ordered c.args.reading.states (take c.args.reading.states c.args.names.now) = let made = c.numbered-count.ensures.1 in
-    take-laid _ _ _ _ made.1 (made.0 ∙ sym (length-tab _ _)) in it))) in it) ∙ (let it : length ((take c.numbered-count.result c.numbered-count.new.1.1.1.0)) ≡ length ((take c.numbered-count.result c.colours_by.new.1.1.0)) = hues_long c.requires ((let it : Ready c.requires ((table c.gather.new.0 c.gather.new.1.0)) ((take c.numbered-count.result c.numbered-count.new.1.1.1.0)) ((c.numbered-count.new.1.1.0)) ((take c.numbered-count.result c.colours_by.new.1.1.0)) = let made = c.numbered-count in
-    record {
-      order_is = (let it : (take c.numbered-count.result c.numbered-count.new.1.1.1.0) ≡ ordered c.args.reading.states (take c.args.reading.states c.args.names.now) = let made = c.numbered-count.ensures.1 in
-          take-laid _ _ _ _ made.1 (made.0 ∙ sym (length-tab _ _)) in it);
-      numbers = numbers_laid c.requires ((c.numbered-count.new.1.1.0)) c.args.list.now made.ensures.0;
-      long = omega (arith, made.kept.1.1.0, c.requires.list_room);
-      gathered = c.gather.ensures;
-      hues_are = take-laid _ _ _ _ c.colours_by.ensures ((let it : c.numbered-count.result ≡ length ((take c.numbered-count.result c.numbered-count.new.1.1.1.0)) = c.numbered-count.ensures.1.0 ∙ sym (order_long c.requires ((let it : (take c.numbered-count.result c.numbered-count.new.1.1.1.0) ≡ ordered c.args.reading.states (take c.args.reading.states c.args.names.now) = let made = c.numbered-count.ensures.1 in
-          take-laid _ _ _ _ made.1 (made.0 ∙ sym (length-tab _ _)) in it))) in it) ∙ sym (length-tab _ _));
-    } in it)) in it)
+slice_bounds-write-end c =
+    count_is c.requires _ _ c.numbered-count.new.order c.numbered-count.ensures.count c.numbered-count.ensures.names
+    ∙ hues_long c.requires (made (goal.at.slice_bounds-write-end c).After-colours_by)
+
+pub slice_bounds-write-end-2 : goal.slice_bounds-write-end-2
+slice_bounds-write-end-2 c =
+    count_is c.requires _ _ c.numbered-count.new.order c.numbered-count.ensures.count c.numbered-count.ensures.names
 
 pub write-length-requires : goal.write-length-requires
 write-length-requires c =
-    let start = start₁ b in
-    let a = start.args in
+    let a = c.args in
+    let can = c.requires in
+    let ready = made (goal.at.write-length-requires c).After-colours_by in
     record {
-      rows = can_store start.pre ((let it : Ready c.requires ((table c.gather.new.0 c.gather.new.1.0)) ((take c.numbered-count.result c.numbered-count.new.1.1.1.0)) ((c.numbered-count.new.1.1.0)) ((take c.numbered-count.result c.colours_by.new.1.1.0)) = let made = c.numbered-count in
-          record {
-            order_is = (let it : (take c.numbered-count.result c.numbered-count.new.1.1.1.0) ≡ ordered c.args.reading.states (take c.args.reading.states c.args.names.now) = let made = c.numbered-count.ensures.1 in
-                take-laid _ _ _ _ made.1 (made.0 ∙ sym (length-tab _ _)) in it);
-            numbers = numbers_laid c.requires ((c.numbered-count.new.1.1.0)) c.args.list.now made.ensures.0;
-            long = omega (arith, made.kept.1.1.0, c.requires.list_room);
-            gathered = c.gather.ensures;
-            hues_are = take-laid _ _ _ _ c.colours_by.ensures ((let it : c.numbered-count.result ≡ length ((take c.numbered-count.result c.numbered-count.new.1.1.1.0)) = c.numbered-count.ensures.1.0 ∙ sym (order_long c.requires ((let it : (take c.numbered-count.result c.numbered-count.new.1.1.1.0) ≡ ordered c.args.reading.states (take c.args.reading.states c.args.names.now) = let made = c.numbered-count.ensures.1 in
-                take-laid _ _ _ _ made.1 (made.0 ∙ sym (length-tab _ _)) in it))) in it) ∙ sym (length-tab _ _));
-          } in it));
-      labels = start.pre.labels;
-      coloured = (let it : length ((take c.numbered-count.result c.numbered-count.new.1.1.1.0)) ≡ length ((take c.numbered-count.result c.colours_by.new.1.1.0)) = hues_long c.requires ((let it : Ready c.requires ((table c.gather.new.0 c.gather.new.1.0)) ((take c.numbered-count.result c.numbered-count.new.1.1.1.0)) ((c.numbered-count.new.1.1.0)) ((take c.numbered-count.result c.colours_by.new.1.1.0)) = let made = c.numbered-count in
-          record {
-            order_is = (let it : (take c.numbered-count.result c.numbered-count.new.1.1.1.0) ≡ ordered c.args.reading.states (take c.args.reading.states c.args.names.now) = let made = c.numbered-count.ensures.1 in
-                take-laid _ _ _ _ made.1 (made.0 ∙ sym (length-tab _ _)) in it);
-            numbers = numbers_laid c.requires ((c.numbered-count.new.1.1.0)) c.args.list.now made.ensures.0;
-            long = omega (arith, made.kept.1.1.0, c.requires.list_room);
-            gathered = c.gather.ensures;
-            hues_are = take-laid _ _ _ _ c.colours_by.ensures ((let it : c.numbered-count.result ≡ length ((take c.numbered-count.result c.numbered-count.new.1.1.1.0)) = c.numbered-count.ensures.1.0 ∙ sym (order_long c.requires ((let it : (take c.numbered-count.result c.numbered-count.new.1.1.1.0) ≡ ordered c.args.reading.states (take c.args.reading.states c.args.names.now) = let made = c.numbered-count.ensures.1 in
-                take-laid _ _ _ _ made.1 (made.0 ∙ sym (length-tab _ _)) in it))) in it) ∙ sym (length-tab _ _));
-          } in it)) in it);
-      packable = subst (λ (F : Filter). Packable a.p F (length a.answer.now)) (sym ((let it : let start = start₁ b in stored ((table c.gather.new.0 c.gather.new.1.0)) ((take c.numbered-count.result c.numbered-count.new.1.1.1.0)) ((c.numbered-count.new.1.1.0)) ((take c.numbered-count.result c.colours_by.new.1.1.0)) start.args.reading.labels c.wide-start.result ≡ made start = let order = (take c.numbered-count.result c.numbered-count.new.1.1.1.0) in
-          let start = start₁ b in
-          ap (stored ((table c.gather.new.0 c.gather.new.1.0)) order ((c.numbered-count.new.1.1.0)) ((take c.numbered-count.result c.colours_by.new.1.1.0)) start.args.reading.labels) c.wide-start.ensures
-          ∙ filter_made start.pre ((let it : Ready c.requires ((table c.gather.new.0 c.gather.new.1.0)) ((take c.numbered-count.result c.numbered-count.new.1.1.1.0)) ((c.numbered-count.new.1.1.0)) ((take c.numbered-count.result c.colours_by.new.1.1.0)) = let made = c.numbered-count in
-          record {
-            order_is = (let it : (take c.numbered-count.result c.numbered-count.new.1.1.1.0) ≡ ordered c.args.reading.states (take c.args.reading.states c.args.names.now) = let made = c.numbered-count.ensures.1 in
-                take-laid _ _ _ _ made.1 (made.0 ∙ sym (length-tab _ _)) in it);
-            numbers = numbers_laid c.requires ((c.numbered-count.new.1.1.0)) c.args.list.now made.ensures.0;
-            long = omega (arith, made.kept.1.1.0, c.requires.list_room);
-            gathered = c.gather.ensures;
-            hues_are = take-laid _ _ _ _ c.colours_by.ensures ((let it : c.numbered-count.result ≡ length ((take c.numbered-count.result c.numbered-count.new.1.1.1.0)) = c.numbered-count.ensures.1.0 ∙ sym (order_long c.requires ((let it : (take c.numbered-count.result c.numbered-count.new.1.1.1.0) ≡ ordered c.args.reading.states (take c.args.reading.states c.args.names.now) = let made = c.numbered-count.ensures.1 in
-                take-laid _ _ _ _ made.1 (made.0 ∙ sym (length-tab _ _)) in it))) in it) ∙ sym (length-tab _ _));
-          } in it)) in it))) start.pre.answer_room;
+      rows = can_store can ready;
+      labels = can.labels;
+      coloured = hues_long can ready;
+      packable = subst (λ (F : Filter). Packable a.p F (length a.answer.now)) (sym (filter_of can ready c.wide-start.ensures)) can.answer_room;
     }
 
 pub returns : goal.returns
 returns c =
-    let numbered = numbered₁ c in
-    let a = numbered.args in
-    let filter = (let it : let start = start₁ b in stored ((table c.gather.new.0 c.gather.new.1.0)) ((take c.numbered-count.result c.numbered-count.new.1.1.1.0)) ((c.numbered-count.new.1.1.0)) ((take c.numbered-count.result c.colours_by.new.1.1.0)) start.args.reading.labels c.wide-start.result ≡ made start = let order = (take c.numbered-count.result c.numbered-count.new.1.1.1.0) in
-    let start = start₁ b in
-    ap (stored ((table c.gather.new.0 c.gather.new.1.0)) order ((c.numbered-count.new.1.1.0)) ((take c.numbered-count.result c.colours_by.new.1.1.0)) start.args.reading.labels) c.wide-start.ensures
-    ∙ filter_made start.pre ((let it : Ready c.requires ((table c.gather.new.0 c.gather.new.1.0)) ((take c.numbered-count.result c.numbered-count.new.1.1.1.0)) ((c.numbered-count.new.1.1.0)) ((take c.numbered-count.result c.colours_by.new.1.1.0)) = let made = c.numbered-count in
+    let a = c.args in
+    let filter = filter_of c.requires (made (goal.at.returns c).After-colours_by) c.wide-start.ensures in
     record {
-      order_is = (let it : (take c.numbered-count.result c.numbered-count.new.1.1.1.0) ≡ ordered c.args.reading.states (take c.args.reading.states c.args.names.now) = let made = c.numbered-count.ensures.1 in
-          take-laid _ _ _ _ made.1 (made.0 ∙ sym (length-tab _ _)) in it);
-      numbers = numbers_laid c.requires ((c.numbered-count.new.1.1.0)) c.args.list.now made.ensures.0;
-      long = omega (arith, made.kept.1.1.0, c.requires.list_room);
-      gathered = c.gather.ensures;
-      hues_are = take-laid _ _ _ _ c.colours_by.ensures ((let it : c.numbered-count.result ≡ length ((take c.numbered-count.result c.numbered-count.new.1.1.1.0)) = c.numbered-count.ensures.1.0 ∙ sym (order_long c.requires ((let it : (take c.numbered-count.result c.numbered-count.new.1.1.1.0) ≡ ordered c.args.reading.states (take c.args.reading.states c.args.names.now) = let made = c.numbered-count.ensures.1 in
-          take-laid _ _ _ _ made.1 (made.0 ∙ sym (length-tab _ _)) in it))) in it) ∙ sym (length-tab _ _));
-    } in it)) in it) in (
-      c.write-length.ensures.0 ∙ ap (λ (F : Filter). laid (written a.p F) a.answer.now) filter,
-      (numbered.numbered.ensures.0, (numbered.numbered.ensures.1.0, c.write-length.ensures.1 ∙ ap (length_of a.p) filter)),
-    )
-
-pub slice_bounds-order-end : goal.slice_bounds-order-end
-slice_bounds-order-end c = (let it : c.numbered-count.result ≤ length c.numbered-count.new.1.1.1.0 = omega (arith, (let it : c.numbered-count.result ≤ 256 = omega (arith, c.numbered-count.ensures.1.0, few_classes c.requires) in it), c.numbered-count.auto.1.1.1.0, c.fresh-order.ensures.1) in it)
-
-pub slice_bounds-colours_by-end : goal.slice_bounds-colours_by-end
-slice_bounds-colours_by-end c = (let it : c.numbered-count.result ≡ length ((take c.numbered-count.result c.numbered-count.new.1.1.1.0)) = c.numbered-count.ensures.1.0 ∙ sym (order_long c.requires ((let it : (take c.numbered-count.result c.numbered-count.new.1.1.1.0) ≡ ordered c.args.reading.states (take c.args.reading.states c.args.names.now) = let made = c.numbered-count.ensures.1 in
-    take-laid _ _ _ _ made.1 (made.0 ∙ sym (length-tab _ _)) in it))) in it)
-
-pub slice_bounds-order-end-2 : goal.slice_bounds-order-end-2
-slice_bounds-order-end-2 c = (let it : c.numbered-count.result ≤ length c.numbered-count.new.1.1.1.0 = omega (arith, (let it : c.numbered-count.result ≤ 256 = omega (arith, c.numbered-count.ensures.1.0, few_classes c.requires) in it), c.numbered-count.auto.1.1.1.0, c.fresh-order.ensures.1) in it)
-
-pub slice_bounds-write-end-2 : goal.slice_bounds-write-end-2
-slice_bounds-write-end-2 c = (let it : c.numbered-count.result ≡ length ((take c.numbered-count.result c.numbered-count.new.1.1.1.0)) = c.numbered-count.ensures.1.0 ∙ sym (order_long c.requires ((let it : (take c.numbered-count.result c.numbered-count.new.1.1.1.0) ≡ ordered c.args.reading.states (take c.args.reading.states c.args.names.now) = let made = c.numbered-count.ensures.1 in
-    take-laid _ _ _ _ made.1 (made.0 ∙ sym (length-tab _ _)) in it))) in it)
+      answer = c.write-length.ensures.bytes ∙ ap (λ (F : Filter). laid (written a.p F) a.answer.now) filter;
+      list = c.numbered-count.ensures.list;
+      states = c.numbered-count.ensures.count;
+      length = c.write-length.ensures.length ∙ ap (length_of a.p) filter;
+    }
