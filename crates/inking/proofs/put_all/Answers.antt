@@ -1,6 +1,6 @@
 use mathlib.Core.Path.{◌≡◌, ap, sym, subst, ◌∙◌}
-use mathlib.Core.List.{◌∷◌}
-use Prim.Native.Nat.{◌+◌, ◌-◌, ◌≤◌, ◌<◌}
+use mathlib.Core.List.{List, [], ◌∷◌}
+use Prim.Native.Nat.{ℕ, ◌+◌, ◌-◌, ◌≤◌, ◌<◌}
 use native.Mathlib.Nat.{le_antisymm}
 use native.Mathlib.Omega.{arith}
 use lib.ListN.{length, get_or, take}
@@ -15,11 +15,18 @@ use Rattle.layout.specs.Code.{edge_of}
 use Rattle.layout.proofs.Bounds.{edges_high, fill_lt}
 use Rattle.layout.proofs.EdgeLists.{total_edges, widths_append}
 use Rattle.files.specs.Written.{edges_fit}
-use Rattle.drawing.specs.Reader.{edges_of, read_of}
+use Rattle.drawing.specs.declared.Line.{Line}
+use Rattle.drawing.specs.Reader.{edges_of, read_of, line_at}
+use Rattle.surveying.specs.declared.Survey.{Survey}
+use Rattle.surveying.specs.Surveys.{Known}
 use Rattle.inking.specs.Inking.{filter_read}
 use Rattle.inking.proofs.Laws.{nowhere, flat_more, edge_fit, AtEdge, states_few, edges_are, edges_few, first_edge, next_edge}
 use Rattle.inking.proofs.put_all.Goals as goal
-use Rattle.inking.proofs.put_all.Goals.{After-slice_known-in-loop-i-1}
+
+-- the next edge is read, and the place behind its statement
+is_next : (text : List ℕ) (s : Survey) → Known text s → (i at : ℕ) → i < s.edges → AtEdge text i at → (line : Line) → line ≡ line_at text at →
+    (edge_of line.edge ≡ get_or (edges_of (read_of text)) i nowhere) × AtEdge text (i + 1) line.end
+is_next text s known i at more here line is = rw is (next_edge text s known i at more here)
 
 pub loop-i-init : goal.loop-i-init
 unfolding edge_widths flat
@@ -27,7 +34,7 @@ loop-i-init c =
     (omega arith, c.begin-pen.ensures, first_edge c.args.text.now c.args.s c.requires.known)
 
 pub line_at-line-requires : goal.line_at-line-requires
-line_at-line-requires c = omega (arith, (let it : c.args.s.edges ≤ 65536 = edges_few c.args.text.now c.args.s c.requires.known c.args.p c.requires.usable c.requires.writable in it), c.loop-i.invariant.2.near)
+line_at-line-requires c = omega (arith, edges_few c.args.text.now c.args.s c.requires.known c.args.p c.requires.usable c.requires.writable, c.loop-i.invariant.2.near)
 
 pub push-pen-requires : goal.push-pen-requires
 push-pen-requires c =
@@ -35,45 +42,36 @@ push-pen-requires c =
     let p = c.args.p in
     let pre = c.requires in
     let r = filter_read (read_of c.args.text.now) in
-    let is = ((let it : let loop = c.loop-i in let text = c.args.text.now in (edge_of c.??line_at_lem.result.edge ≡ get_or (edges_of (read_of text)) loop.i nowhere) × AtEdge text (loop.i + 1) c.??line_at_lem.result.end = let loop = c.loop-i in
-    rw c.??line_at_lem.ensures
-    (next_edge c.args.text.now c.args.s c.requires.known loop.i loop.at c.loop-i-test.true loop.invariant.2) in it)).0 in
-    let f = edge_fit p r.edges loop.i (edges_fit p pre.usable r pre.writable) (omega (arith, (let it : c.args.s.edges ≡ length (edges_of (read_of c.args.text.now)) = edges_are c.args.text.now c.args.s c.requires.known in it), c.loop-i-test.true)) in
+    let is = (is_next c.args.text.now c.args.s c.requires.known loop.i loop.at c.loop-i-test.true loop.invariant.2 c.line_at-line.result c.line_at-line.ensures).0 in
+    let f = edge_fit p r.edges loop.i (edges_fit p pre.usable r pre.writable) (omega (arith, edges_are c.args.text.now c.args.s c.requires.known, c.loop-i-test.true)) in
     record {
       usable = pre.usable;
       ready = loop.invariant.1.ready;
-      near = omega (arith, loop.invariant.1.place, total_edges p loop.i, pre.begin, edges_high p pre.usable loop.i (omega (arith, (let it : c.args.s.edges ≤ 65536 = edges_few c.args.text.now c.args.s c.requires.known c.args.p c.requires.usable c.requires.writable in it), loop.invariant.0)));
+      near = omega (arith, loop.invariant.1.place, total_edges p loop.i, pre.begin, edges_high p pre.usable loop.i (omega (arith, edges_few c.args.text.now c.args.s c.requires.known c.args.p c.requires.usable c.requires.writable, loop.invariant.0)));
       source = rw (ap (λ (e : Edge). e.source) is) f.0;
       label = rw (ap (λ (e : Edge). e.label) is) f.1;
       target = rw (ap (λ (e : Edge). e.target) is) f.2;
     }
-
--- there is one edge more
-more : (c : After-slice_known-in-loop-i-1) → (c.loop-i.i < c.args.s.edges) × (c.args.s.edges ≤ 65536)
-more c =
-    (c.loop-i-test.true, (let it : c.args.s.edges ≤ 65536 = edges_few c.args.text.now c.args.s c.requires.known c.args.p c.requires.usable c.requires.writable in it))
 
 pub loop-i-preserved : goal.loop-i-preserved
 loop-i-preserved c =
     let loop = c.loop-i in
     let es = edges_of (read_of c.args.text.now) in
     let i = loop.i in
-    let next = (let it : let loop = c.loop-i in let text = c.args.text.now in (edge_of c.??line_at_lem.result.edge ≡ get_or (edges_of (read_of text)) loop.i nowhere) × AtEdge text (loop.i + 1) c.??line_at_lem.result.end = let loop = c.loop-i in
-    rw c.??line_at_lem.ensures
-    (next_edge c.args.text.now c.args.s c.requires.known loop.i loop.at c.loop-i-test.true loop.invariant.2) in it) in
+    let next = is_next c.args.text.now c.args.s c.requires.known loop.i loop.at c.loop-i-test.true loop.invariant.2 c.line_at-line.result c.line_at-line.ensures in
     let p = c.args.p in
     let drawn =
-    subst (λ (e : Edge). Drawn (inked loop.part loop.pen) (place_of loop.pen) (edge_widths p 1) (flat (e ∷ [])) c.push-pen.new.1.0 c.push-pen.result)
+    subst (λ (e : Edge). Drawn (inked loop.part loop.pen) (place_of loop.pen) (edge_widths p 1) (flat (e ∷ [])) c.push-pen.new.room c.push-pen.result)
     next.0 c.push-pen.ensures in (
       omega (arith, c.loop-i-test.true),
-      rw (flat_more es i (omega (arith, (let it : c.args.s.edges ≡ length (edges_of (read_of c.args.text.now)) = edges_are c.args.text.now c.args.s c.requires.known in it), c.loop-i-test.true)), widths_append p i 1) (drawn-behind loop.invariant.1 drawn),
+      rw (flat_more es i (omega (arith, edges_are c.args.text.now c.args.s c.requires.known, c.loop-i-test.true)), widths_append p i 1) (drawn-behind loop.invariant.1 drawn),
       next.1,
     )
 
 pub fill_bits-requires : goal.fill_bits-requires
 fill_bits-requires c =
     let pre = c.requires in
-    (pre.usable, states_few c.args.text.now c.args.s pre.known c.args.p pre.usable pre.writable, (let it : c.args.s.edges ≤ 65536 = edges_few c.args.text.now c.args.s c.requires.known c.args.p c.requires.usable c.requires.writable in it))
+    (pre.usable, states_few c.args.text.now c.args.s pre.known c.args.p pre.usable pre.writable, edges_few c.args.text.now c.args.s c.requires.known c.args.p c.requires.usable c.requires.writable)
 
 pub fill-requires : goal.fill-requires
 fill-requires c =
@@ -88,14 +86,14 @@ fill-requires c =
         loop.invariant.1.place,
         total_edges p loop.i,
         c.requires.begin,
-        edges_high p c.requires.usable loop.i (omega (arith, (let it : c.args.s.edges ≤ 65536 = edges_few c.args.text.now c.args.s c.requires.known c.args.p c.requires.usable c.requires.writable in it), loop.invariant.0)),
+        edges_high p c.requires.usable loop.i (omega (arith, edges_few c.args.text.now c.args.s c.requires.known c.args.p c.requires.usable c.requires.writable, loop.invariant.0)),
         c.fill_bits.ensures,
         fill_lt p c.args.s.states c.args.s.edges,
       );
     }
 
 pub shape_of-part : goal.shape_of-part
-shape_of-part c = c.fill.auto.0 ∙ drawn-length c.loop-i.invariant.1
+shape_of-part c = c.fill.auto.part ∙ drawn-length c.loop-i.invariant.1
 
 pub returns : goal.returns
 unfolding put_fields
@@ -104,14 +102,14 @@ returns c =
     let p = c.args.p in
     let es = edges_of (read_of c.args.text.now) in
     let all : loop.i ≡ c.args.s.edges = le_antisymm loop.invariant.0 c.loop-i-test.false in
-    let whole : take c.args.s.edges es ≡ es = rw ((let it : c.args.s.edges ≡ length (edges_of (read_of c.args.text.now)) = edges_are c.args.text.now c.args.s c.requires.known in it)) (take-length es) in
+    let whole : take c.args.s.edges es ≡ es = rw (edges_are c.args.text.now c.args.s c.requires.known) (take-length es) in
     let drawn : Drawn c.args.part.now c.args.bit (edge_widths p c.args.s.edges) (flat es) loop.part loop.pen =
     rw (all, whole) at loop.invariant.1 in
     c.fill.ensures ∙ rw (drawn.ink, drawn.place, c.fill_bits.ensures)
     (sym (puts_append c.args.part.now c.args.bit (edge_widths p c.args.s.edges) _ (flat es) (0 ∷ []) (fit_length _ _ drawn.fit)))
 
 pub overflow_add-i : goal.overflow_add-i
-overflow_add-i c = omega (arith, more c)
+overflow_add-i c = omega (arith, edges_few c.args.text.now c.args.s c.requires.known c.args.p c.requires.usable c.requires.writable)
 
 pub loop-i-smaller : goal.loop-i-smaller
-loop-i-smaller c = omega (arith, more c)
+loop-i-smaller c = omega (arith, edges_few c.args.text.now c.args.s c.requires.known c.args.p c.requires.usable c.requires.writable)

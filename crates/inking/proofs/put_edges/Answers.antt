@@ -1,6 +1,6 @@
 -- `inking::put_edges` meets its contract: what is written into the part that is lent on is written into the room. Assumes nothing.
 use mathlib.Core.Path.{◌≡◌, sym, ap, ◌∙◌}
-use mathlib.Core.List.{◌∷◌, ◌++◌}
+use mathlib.Core.List.{[], ◌∷◌, ◌++◌}
 use Prim.Native.Nat.{ℕ, ◌+◌, ◌*◌, ◌/◌, ◌%◌}
 use native.Mathlib.Omega.{arith}
 use Rattle.pen.specs.Runs.{put_fields}
@@ -18,6 +18,6 @@ returns c =
     let ws = edge_widths a.p a.s.edges ++ (fill_bits a.p a.s.states a.s.edges ∷ []) in
     let vs = flat (edges_of (read_of a.text.now)) ++ (0 ∷ []) in
     let at : from * 8 + a.bit % 8 ≡ a.bit = omega arith in
-    back_tail room c.??put_all_lem.new.1.0 from
-    ∙ rw (c.??put_all_lem.ensures, lent_tail room from)
+    back_tail room c.put_all.new.part from
+    ∙ rw (c.put_all.ensures, lent_tail room from)
     (sym (puts_drop room from (a.bit % 8) ws vs c.requires.reaches) ∙ ap (λ (k : ℕ). put_fields room k ws vs) at)
