@@ -8,13 +8,7 @@ use cases::{Head, Next};
 use std::io::{Read, Write};
 
 // Makes the call and writes its answer and the strings behind it; whether there is such a call.
-fn make_call<W: Write>(
-    output: &mut W,
-    head: Head,
-    a: &[u8],
-    b: &mut [u8],
-    c: &mut [u8],
-) -> bool {
+fn make_call<W: Write>(output: &mut W, head: Head, a: &[u8], b: &mut [u8], c: &mut [u8]) -> bool {
     if head.call < 1 || 14 < head.call {
         return false;
     }

@@ -10,10 +10,10 @@ use Rattle.text.proofs.Laws.{wrote_front}
 use Rattle.report.proofs.text.Goals as goal
 
 pub slice_bounds-print-end : goal.slice_bounds-print-end
-slice_bounds-print-end c = let made = c.put_text-k in sym (length-take-le made.result made.new.0 (omega (arith, made.ensures.2)))
+slice_bounds-print-end c = let made = c.put_text-k in sym (length-take-le made.result made.new.room (omega (arith, made.ensures.2)))
 
 pub returns : goal.returns
 returns c =
     let made = c.put_text-k in
     let is = ap (take made.result) made.ensures.0 ∙ wrote_front _ _ made.result made.ensures.1 in
-    subst (λ (text : List ℕ). Printed text c.args.room.now c.print.result c.print.new.1.0) is c.print.ensures
+    subst (λ (text : List ℕ). Printed text c.args.room.now c.print.result c.print.new.room) is c.print.ensures

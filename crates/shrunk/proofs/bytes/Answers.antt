@@ -12,16 +12,34 @@ use Rattle.shrunk.proofs.bytes.Goals as goal
 
 pub returns-in_default : goal.returns-in_default
 returns-in_default c =
-    nothing_written ((c.args.file.now)) ((rooms c.file_room-answer.result c.class_room-classes.result)) ((rooms c.reduce-reduced.new.1.0 c.reduce-reduced.new.1.1.0)) c.reduce-reduced.result c.reduce-reduced.ensures (omega arith) (omega arith) c.enum_told-1.given.0.0 c.enum_told-1.given.1
+    let made = c.reduce-reduced in
+    nothing_written c.args.file.now (rooms c.file_room-answer.result c.class_room-classes.result) (rooms made.new.answer made.new.classes) made.result made.ensures (omega arith) (omega arith) c.in_default.field-0 c.in_default.is
     c.args.room.now
 
 pub slice_bounds-answer-end : goal.slice_bounds-answer-end
-slice_bounds-answer-end c = (let it : ((c.reduced-1.given.0.0)).length ≤ length c.reduce-reduced.new.1.0 = omega (arith, short ((c.args.file.now)) ((rooms c.file_room-answer.result c.class_room-classes.result)) ((rooms c.reduce-reduced.new.1.0 c.reduce-reduced.new.1.1.0)) c.reduce-reduced.result c.reduce-reduced.ensures (omega arith) (omega arith) ((c.reduced-1.given.0.0)) c.reduced-1.given.1) in it)
+slice_bounds-answer-end c =
+    let made = c.reduce-reduced in
+    omega (
+      arith,
+      short c.args.file.now (rooms c.file_room-answer.result c.class_room-classes.result) (rooms made.new.answer made.new.classes) made.result made.ensures (omega arith) (omega arith) c.in-Accepted.counts
+          c.in-Accepted.is,
+    )
 
 pub slice_bounds-print-end : goal.slice_bounds-print-end
-slice_bounds-print-end c = sym (length-take-le ((c.reduced-1.given.0.0)).length _ ((let it : ((c.reduced-1.given.0.0)).length ≤ length c.reduce-reduced.new.1.0 = omega (arith, short ((c.args.file.now)) ((rooms c.file_room-answer.result c.class_room-classes.result)) ((rooms c.reduce-reduced.new.1.0 c.reduce-reduced.new.1.1.0)) c.reduce-reduced.result c.reduce-reduced.ensures (omega arith) (omega arith) ((c.reduced-1.given.0.0)) c.reduced-1.given.1) in it)))
+slice_bounds-print-end c =
+    let made = c.reduce-reduced in
+    let fits : c.in-Accepted.counts.length ≤ length made.new.answer =
+    omega (
+      arith,
+      short c.args.file.now (rooms c.file_room-answer.result c.class_room-classes.result) (rooms made.new.answer made.new.classes) made.result made.ensures (omega arith) (omega arith) c.in-Accepted.counts
+          c.in-Accepted.is,
+    ) in
+    sym (length-take-le c.in-Accepted.counts.length _ fits)
 
 pub returns : goal.returns
 returns c =
-    let is = bytes_are ((c.args.file.now)) ((rooms c.file_room-answer.result c.class_room-classes.result)) ((rooms c.reduce-reduced.new.1.0 c.reduce-reduced.new.1.1.0)) c.reduce-reduced.result c.reduce-reduced.ensures (omega arith) (omega arith) ((c.reduced-1.given.0.0)) c.reduced-1.given.1 in
-    subst (λ (text : List ℕ). Printed text c.args.room.now c.print.result c.print.new.1.0) is c.print.ensures
+    let made = c.reduce-reduced in
+    let is =
+    bytes_are c.args.file.now (rooms c.file_room-answer.result c.class_room-classes.result) (rooms made.new.answer made.new.classes) made.result made.ensures (omega arith) (omega arith) c.in-Accepted.counts
+    c.in-Accepted.is in
+    subst (λ (text : List ℕ). Printed text c.args.room.now c.print.result c.print.new.room) is c.print.ensures
