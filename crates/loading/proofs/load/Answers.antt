@@ -3,7 +3,7 @@ use Rattle.loading.proofs.load.Goals as goal
 
 pub load_as-requires : goal.load_as-requires
 load_as-requires c =
-    rw c.large.ensures (c.headed.ensures, c.requires)
+    rw c.large.ensures (record { answer_value = c.headed.ensures; loadable = c.requires })
 
 pub returns : goal.returns
 returns c =

@@ -3,7 +3,7 @@ use Rattle.loading.proofs.pocket_load.Goals as goal
 
 pub load_as-requires : goal.load_as-requires
 load_as-requires c =
-    rw c.pocket.ensures (c.pocket_headed.ensures, c.requires)
+    rw c.pocket.ensures (record { answer_value = c.pocket_headed.ensures; loadable = c.requires })
 
 pub returns : goal.returns
 returns c =
