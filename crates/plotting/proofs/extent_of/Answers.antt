@@ -44,4 +44,4 @@ returns c =
     extent_is p file (omega (arith, text_length p file, first, second)) (c.edges_extent-edges.ensures.1 ∙ ap labels_of listed)
 
 pub overflow_add-result-2 : goal.overflow_add-result-2
-overflow_add-result-2 c = omega (arith, add-t10 c)
+overflow_add-result-2 c = omega (arith, overflow_add-result-3 c)

@@ -1,4 +1,5 @@
 use mathlib.Core.Path.{◌≡◌, refl, ap, ◌∙◌}
+use mathlib.Core.List.{[]}
 use Prim.Native.Nat.{ℕ, ◌+◌, ◌*◌, ◌-◌, ◌≤◌}
 use native.Mathlib.Nat.{le_antisymm}
 use native.Mathlib.Omega.{arith}
@@ -59,7 +60,7 @@ loop-i-preserved c =
     let done = same room a.begin (edge_lines_more a.p file a.first loop.i) more.0 more.1 in (
       omega arith,
       next_place a.first (edge_bits a.p) loop.i loop.invariant.1 c.edge_bits-bit.ensures.0,
-      c.put_edge-at.auto.0 ∙ loop.invariant.2,
+      c.put_edge-at.auto.room ∙ loop.invariant.2,
       done.0,
       done.1,
     )

@@ -1,4 +1,5 @@
 use mathlib.Core.Path.{◌≡◌, refl, ap, ◌∙◌}
+use mathlib.Core.List.{[]}
 use Prim.Native.Nat.{ℕ, ◌-◌}
 use native.Mathlib.Nat.{le_antisymm}
 use native.Mathlib.Omega.{arith}
@@ -29,7 +30,7 @@ loop-i-preserved c =
     let more =
     both a.room.now a.begin (state_lines 0 (take loop.i cs)) (state_line loop.i (get_or cs loop.i 0)) (omega (arith, c.requires.2)) loop.invariant.2 loop.invariant.3 one.0 one.1 in
     let done = same a.room.now a.begin (states_more cs loop.i (omega (arith, c.loop-i-test.true, c.requires.0))) more.0 more.1 in
-    (omega arith, c.put_state-at.auto.0 ∙ loop.invariant.1, done.0, done.1)
+    (omega arith, c.put_state-at.auto.room ∙ loop.invariant.1, done.0, done.1)
 
 pub returns : goal.returns
 returns c =
