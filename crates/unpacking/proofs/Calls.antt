@@ -3,14 +3,13 @@
 use mathlib.Core.Logic.{◌⊎◌, inl, inr}
 use mathlib.Core.Path.{◌≡◌, refl, sym, ap, ◌∙◌}
 use mathlib.Core.Bool.{Bool, true, false, ◌||◌}
-use mathlib.Core.List.{List, [], ◌∷◌, ◌++◌}
-use Prim.Native.Nat.{ℕ, ◌+◌, ◌*◌, ◌≤◌, ◌<◌}
+use mathlib.Core.List.{List, ◌++◌}
+use Prim.Native.Nat.{ℕ, ◌*◌, ◌≤◌, ◌<◌}
 use native.Mathlib.Omega.{arith}
 use lib.Dec.{ltb}
 use lib.ListN.{length, drop, replicate}
 use borrow.Author.Tests.{lt-ltb, le-ltb}
 use Rattle.pen.specs.Runs.{fields}
-use Rattle.meaning.specs.Filter.{Edge}
 use Rattle.meaning.specs.Cases.{impossible, or_left, or_right}
 use Rattle.refusals.specs.declared.Kind.TheVariants.{Room}
 use Rattle.refusals.specs.declared.Refusal.{Refusal}
@@ -24,9 +23,8 @@ use Rattle.layout.proofs.EdgeLists.{length-flat}
 use Rattle.files.specs.Files.{numbers_in, check_of}
 use Rattle.files.specs.Tests.{check_sound, ReadIs}
 use Rattle.files.specs.Written.{length_colours, length-edges_in}
-use Rattle.unpacking.specs.declared.Unpacked.{Unpacked}
 use Rattle.unpacking.specs.declared.Unpacked.TheVariants as unpacked
-use Rattle.unpacking.specs.Promise.{Rooms, rooms, unpacked_outcome, unpack_tests, unpack_of, UnpackPromise}
+use Rattle.unpacking.specs.Promise.{Rooms, rooms, unpack_tests, unpack_of, UnpackPromise}
 
 or_neither : (a b : Bool) → a ≡ false → b ≡ false → a || b ≡ false
 or_neither true b h k = h

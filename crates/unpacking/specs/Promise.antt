@@ -1,7 +1,7 @@
 -- What unpack answers, and what it promises of its answer and of every byte that it is lent to write. What is lent to be read
 -- cannot change.
 -- Assumes nothing.
-use Rattle.std.specs.Prelude.{ℕ, ◌*◌, ◌≤◌, ◌≡◌, ◌||◌, List, [], ◌∷◌, ltb, length}
+use Rattle.std.specs.Prelude.{ℕ, ◌*◌, ◌≤◌, ◌||◌, List, [], ◌∷◌, ltb, length}
 use Rattle.refusals.specs.Refusals.{Outcome, accepted, refusal_outcome, Test, test, first_of, onward, Lent, lent, Promise}
 use Rattle.layout.specs.declared.Profile.{Profile}
 use Rattle.layout.specs.Layout.{flat}

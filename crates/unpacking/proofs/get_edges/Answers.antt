@@ -1,71 +1,69 @@
 use mathlib.Core.Path.{◌≡◌, refl, ap, ◌∙◌}
-use mathlib.Core.List.{List, ◌++◌}
-use Prim.Native.Nat.{ℕ, ◌+◌, ◌*◌, ◌-◌, ◌^◌, ◌<◌, ◌≤◌}
+use mathlib.Core.List.{List}
+use Prim.Native.Nat.{ℕ, ◌+◌, ◌*◌, ◌^◌, ◌<◌}
 use native.Mathlib.Nat.{mul-suc, le_antisymm}
 use native.Mathlib.Numerals.{add-one}
 use native.Mathlib.Omega.{arith}
-use lib.ListN.{length, drop, length-set}
+use lib.ListN.{length, length-set}
 use Rattle.layout.specs.declared.Profile.{Profile}
 use Rattle.layout.specs.Layout.{edge_bits, flat}
 use Rattle.layout.specs.Contents.{placed_from, edges_from}
-use Rattle.layout.specs.Code.{edge_of, Small}
+use Rattle.layout.specs.declared.edge.Edge.{Edge}
+use Rattle.layout.specs.declared.edge.Placed.{Placed}
+use Rattle.layout.specs.Code.{edge_of, bare, Small}
 use Rattle.layout.proofs.Bounds.{place_high}
 use Rattle.layout.proofs.EdgeLists.{length-flat, length_edges, edges_more, bare_read, store_edge}
 use Rattle.edges.specs.declared.Cursor.{Cursor}
+use Rattle.unpacking.specs.Promise.{Readable}
+use Rattle.unpacking.proofs.get_edges.Invariants.{Got}
 use Rattle.unpacking.proofs.get_edges.Goals as goal
 
-record Got (P : Profile) (file : List ℕ) (at e : ℕ) (found out : List ℕ) (c : Cursor) (o : ℕ) : Type 0 where
-  inside : c.index ≤ e
-  placed : c.place ≡ at + edge_bits P * c.index
-  behind : o ≡ 3 * c.index
-  long : length out ≡ length found
-  made : out ≡ flat (edges_from P file at c.index) ++ drop (3 * c.index) found
+-- what a cursor in the loop knows of its numbers
+near : (P : Profile) (file : List ℕ) (at e : ℕ) (found out : List ℕ) (cursor : Cursor) (o : ℕ) → Readable P at e found → Got P file at e found out cursor o →
+    (cursor.place < 2 ^ 63) × (cursor.index < 2 ^ 63)
+near P file at e found out cursor o pre got = (
+  omega (arith, got.placed, place_high P pre.usable at cursor.index pre.begin (omega (arith, got.inside, pre.few))),
+  omega (arith, got.inside, pre.few),
+)
+
+-- the three bytes of an edge have room
+room : (P : Profile) (file : List ℕ) (at e : ℕ) (found out : List ℕ) (cursor : Cursor) (o : ℕ) → Readable P at e found → Got P file at e found out cursor o →
+    cursor.index < e → o + 2 < length out
+room P file at e found out cursor o pre got less = omega (arith, got.behind, got.long, less, pre.holds)
+
+-- the edge that was read is of bytes
+bytes : (placed : Placed) (edge : Edge) → Small (bare placed) → edge ≡ bare placed → Small edge
+bytes placed edge small is = rw is small
 
 pub loop-cursor-init : goal.loop-cursor-init
 unfolding flat edges_from placed_from
 loop-cursor-init c = rw c.begin-cursor.ensures (record { inside = omega arith; placed = omega arith; behind = omega arith; long = refl; made = refl })
 
 pub read-placed-requires : goal.read-placed-requires
-read-placed-requires c = (
-  c.requires.usable,
-  ((let it : (c.loop-cursor.cursor.place < 2 ^ 63) × (c.loop-cursor.cursor.index < 2 ^ 63) = let pre = c.requires in (
-    omega (arith, c.loop-cursor.invariant.placed, place_high c.args.p pre.usable c.args.at c.loop-cursor.cursor.index pre.begin (omega (arith, c.loop-cursor.invariant.inside, pre.few))),
-    omega (arith, c.loop-cursor.invariant.inside, pre.few),
-  ) in it)).0,
-)
+read-placed-requires c = (c.requires.usable, (near _ _ _ _ _ _ _ _ c.requires c.loop-cursor.invariant).0)
 
 pub overflow_cast-out : goal.overflow_cast-out
-overflow_cast-out c = let bytes = (let it : Small c.bare-edge.result = rw c.bare-edge.ensures c.read-placed.ensures.1 in it) in omega arith
+overflow_cast-out c = omega (arith, bytes c.read-placed.result c.bare-edge.result c.read-placed.ensures.1 c.bare-edge.ensures)
 
 pub bounds-out-o : goal.bounds-out-o
-bounds-out-o c = omega (arith, (let it : c.loop-cursor.o + 2 < length c.loop-cursor.out = omega (arith, c.loop-cursor.invariant.behind, c.loop-cursor.invariant.long, c.loop-cursor-test.true, c.requires.holds) in it))
+bounds-out-o c = omega (arith, room _ _ _ _ _ _ _ _ c.requires c.loop-cursor.invariant c.loop-cursor-test.true)
 
 pub overflow_cast-out-in-loop-cursor : goal.overflow_cast-out-in-loop-cursor
-overflow_cast-out-in-loop-cursor c = let bytes = (let it : Small c.bare-edge.result = rw c.bare-edge.ensures c.read-placed.ensures.1 in it) in omega arith
+overflow_cast-out-in-loop-cursor c = omega (arith, bytes c.read-placed.result c.bare-edge.result c.read-placed.ensures.1 c.bare-edge.ensures)
 
 pub bounds-out-o-in-loop-cursor : goal.bounds-out-o-in-loop-cursor
-bounds-out-o-in-loop-cursor c = simp length-set (omega (arith, (let it : c.loop-cursor.o + 2 < length c.loop-cursor.out = omega (arith, c.loop-cursor.invariant.behind, c.loop-cursor.invariant.long, c.loop-cursor-test.true, c.requires.holds) in it)))
+bounds-out-o-in-loop-cursor c = simp length-set (omega (arith, room _ _ _ _ _ _ _ _ c.requires c.loop-cursor.invariant c.loop-cursor-test.true))
 
 pub overflow_cast-out-in-loop-cursor-2 : goal.overflow_cast-out-in-loop-cursor-2
-overflow_cast-out-in-loop-cursor-2 c = let bytes = (let it : Small c.bare-edge.result = rw c.bare-edge.ensures c.read-placed.ensures.1 in it) in omega arith
+overflow_cast-out-in-loop-cursor-2 c = omega (arith, bytes c.read-placed.result c.bare-edge.result c.read-placed.ensures.1 c.bare-edge.ensures)
 
 pub bounds-out-o-in-loop-cursor-2 : goal.bounds-out-o-in-loop-cursor-2
-bounds-out-o-in-loop-cursor-2 c = simp length-set ((let it : c.loop-cursor.o + 2 < length c.loop-cursor.out = omega (arith, c.loop-cursor.invariant.behind, c.loop-cursor.invariant.long, c.loop-cursor-test.true, c.requires.holds) in it))
+bounds-out-o-in-loop-cursor-2 c = simp length-set (room _ _ _ _ _ _ _ _ c.requires c.loop-cursor.invariant c.loop-cursor-test.true)
 
 pub behind-cursor-requires : goal.behind-cursor-requires
 behind-cursor-requires c =
-    record {
-      usable = c.requires.usable;
-      small = c.read-placed.ensures.1;
-      place = ((let it : (c.loop-cursor.cursor.place < 2 ^ 63) × (c.loop-cursor.cursor.index < 2 ^ 63) = let pre = c.requires in (
-        omega (arith, c.loop-cursor.invariant.placed, place_high c.args.p pre.usable c.args.at c.loop-cursor.cursor.index pre.begin (omega (arith, c.loop-cursor.invariant.inside, pre.few))),
-        omega (arith, c.loop-cursor.invariant.inside, pre.few),
-      ) in it)).0;
-      index = ((let it : (c.loop-cursor.cursor.place < 2 ^ 63) × (c.loop-cursor.cursor.index < 2 ^ 63) = let pre = c.requires in (
-        omega (arith, c.loop-cursor.invariant.placed, place_high c.args.p pre.usable c.args.at c.loop-cursor.cursor.index pre.begin (omega (arith, c.loop-cursor.invariant.inside, pre.few))),
-        omega (arith, c.loop-cursor.invariant.inside, pre.few),
-      ) in it)).1;
-    }
+    let small = near _ _ _ _ _ _ _ _ c.requires c.loop-cursor.invariant in
+    record { usable = c.requires.usable; small = c.read-placed.ensures.1; place = small.0; index = small.1 }
 
 pub loop-cursor-smaller : goal.loop-cursor-smaller
 loop-cursor-smaller c = rw c.behind-cursor.ensures (omega (arith, c.loop-cursor-test.true))
@@ -92,7 +90,7 @@ loop-cursor-preserved c =
         three,
         inv.made,
         inv.behind,
-        store_edge es (edge_of c.bare-edge.result) a.out.now (3 * i) made (omega (arith, (let it : c.loop-cursor.o + 2 < length c.loop-cursor.out = omega (arith, c.loop-cursor.invariant.behind, c.loop-cursor.invariant.long, c.loop-cursor-test.true, c.requires.holds) in it), inv.long, inv.behind)),
+        store_edge es (edge_of c.bare-edge.result) a.out.now (3 * i) made (omega (arith, room _ _ _ _ _ _ _ _ c.requires c.loop-cursor.invariant c.loop-cursor-test.true, inv.long, inv.behind)),
         is,
         inv.placed,
         edges_more p file a.at i,
