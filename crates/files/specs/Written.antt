@@ -4,8 +4,7 @@ use Rattle.std.specs.Prelude.{◌≡◌, true, false, ◌&&◌, ltb, get_or, tak
 use Rattle.std.proofs.Math.Path.{refl, sym, ap}
 use Rattle.std.proofs.Common.{◌∙◌, zero-add, mul-le-mul, lt_of_lt_of_le, lt_of_le_of_lt, le_trans, le_refl, drop_of_length-le, pow_pos, pow_mono, pow-add, take_at, drop_at, drop-cons, ltb-true, lt-ltb, le-ltb, add-one}
 use mathlib.Core.List.{List, [], ◌∷◌, ◌++◌, map}
-use Rattle.std.proofs.Math.Option.{none}
-use Prim.Native.Nat.{ℕ, zero, suc, ◌+◌, ◌*◌, ◌-◌, ◌^◌, ◌≤◌, ◌<◌}
+use Prim.Native.Nat.{ℕ, suc, ◌+◌, ◌*◌, ◌-◌, ◌^◌, ◌≤◌, ◌<◌}
 use Rattle.std.proofs.Math.Nat.{mul_comm}
 use native.Mathlib.Omega.{arith}
 use Rattle.std.proofs.Math.ListN.{length, length-replicate}

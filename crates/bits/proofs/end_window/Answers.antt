@@ -8,7 +8,7 @@ use Rattle.bits.proofs.end_window.Goals as goal
 pub returns : goal.returns
 returns c =
     let a = c.args in
-    let b : Bytes a.s.now = λ i. omega (arith, c.shared_slice_known-1.given i) in (
+    let b : Bytes a.s.now = λ i. omega (arith, c.type_inv.s i) in (
       rw (
         c.byte_at.ensures.0,
         c.byte_at-2.ensures.0,

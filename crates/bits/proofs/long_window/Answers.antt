@@ -15,7 +15,7 @@ halves s q = let next : q * 8 + 32 ≡ (q + 4) * 8 = omega arith in field-split 
 pub returns-then-q-s : goal.returns-then-q-s
 returns-then-q-s c =
     let a = c.args in
-    let b : Bytes a.s.now = λ i. omega (arith, c.shared_slice_known-1.given i) in
+    let b : Bytes a.s.now = λ i. omega (arith, c.type_inv.s i) in
     let five : a.q + 4 + 1 ≡ a.q + 5 = omega arith in
     let six : a.q + 4 + 2 ≡ a.q + 6 = omega arith in
     let seven : a.q + 4 + 3 ≡ a.q + 7 = omega arith in

@@ -8,7 +8,7 @@ use Rattle.bits.proofs.window.Goals as goal
 pub returns-then-q-s : goal.returns-then-q-s
 returns-then-q-s c =
     let a = c.args in
-    let b : Bytes a.s.now = λ i. omega (arith, c.shared_slice_known-1.given i) in (
+    let b : Bytes a.s.now = λ i. omega (arith, c.type_inv.s i) in (
       rw (c.wide.ensures.0, c.wide-then-q-s.ensures.0, c.wide-then-q-s-2.ensures.0, c.wide-then-q-s-3.ensures.0)
           (sym (field_window a.s.now a.q b)),
       search rules,
