@@ -1,5 +1,4 @@
 -- `dot::draw` meets its contract. Assumes nothing.
--- ---- a file that was accepted
 use mathlib.Core.Path.{◌≡◌, ap, sym, ◌∙◌}
 use native.Mathlib.Omega.{arith}
 use lib.ListN.{length}
@@ -7,22 +6,42 @@ use mathlib.Core.Bool.{true}
 use Rattle.layout.specs.Contents.{edges_in, filter_in}
 use Rattle.checking.specs.Promise.{checked_outcome}
 use Rattle.drawing.specs.Profile.{labels_of}
-use Rattle.plotting.specs.Plot.{text_of, Plottable}
+use Rattle.plotting.specs.Plot.{text_of}
 use Rattle.dot.specs.Promise.{drawable}
 use Rattle.files.specs.Tests.{ReadIs, reading_is}
 use Rattle.plotting.specs.declared.Extent.{Extent}
 use Rattle.dot.proofs.Calls.{draw_refused, other_start, other_labels, can_draw, short_room, drawn-laid}
 use Rattle.dot.proofs.draw.Goals as goal
-use Rattle.dot.proofs.draw.Goals.{In-Accepted}
+use Rattle.dot.proofs.draw.Goals.{In-Accepted, After-extent_of-extent, Else-r-extent}
 
-read : (c : In-Accepted) → ReadIs c.args.p c.args.file.now c.checked-1.given.0.0
-read c = reading_is _ _ _ (sym c.requires.1 ∙ ap checked_outcome c.checked-1.given.1)
+-- ---- a file that was accepted
+
+read : (c : In-Accepted) → ReadIs c.args.p c.args.file.now c.in-Accepted.r
+read c = reading_is _ _ _ (sym c.requires.1 ∙ ap checked_outcome c.in-Accepted.is)
+
+labels : (c : After-extent_of-extent) → c.extent_of-extent.result.labels ≡ labels_of (edges_in c.args.p c.args.file.now)
+labels c = ap (λ (x : Extent). x.labels) c.extent_of-extent.ensures
+
+long : (c : After-extent_of-extent) → c.extent_of-extent.result.length ≡ length (text_of c.args.p c.args.file.now)
+long c = ap (λ (x : Extent). x.length) c.extent_of-extent.ensures
+
+drawable_now : (c : Else-r-extent) → ReadIs c.args.p c.args.file.now c.in-Accepted.r →
+    c.extent_of-extent.result.labels ≡ labels_of (edges_in c.args.p c.args.file.now) → drawable (filter_in c.args.p c.args.file.now) ≡ true
+drawable_now c a l = can_draw _ _ _ a c.args.room.now c.if-r-ne0.false (c.if-r-extent.false ∙ l)
 
 -- ---- the needs
 
 pub returns-in_default : goal.returns-in_default
 returns-in_default c =
-    draw_refused c.args.p c.args.file.now c.args.room.now c.args.checked _ c.refusal.result c.requires.1 c.enum_told-1.given.1 c.refusal.ensures
+    draw_refused c.args.p c.args.file.now c.args.room.now c.args.checked _ c.refusal.result c.requires.1 c.in_default.is c.refusal.ensures
+
+pub colours_of-colours-requires : goal.colours_of-colours-requires
+colours_of-colours-requires c = (c.requires.0, (read c).states_are)
+
+pub extent_of-extent-requires : goal.extent_of-extent-requires
+extent_of-extent-requires c =
+    let a = read (goal.at.extent_of-extent-requires c).In-Accepted in
+    record { usable = c.requires.0; coloured = c.colours_of-colours.ensures; states = a.states_are; edges = a.count_is }
 
 pub returns-then-r-ne0 : goal.returns-then-r-ne0
 returns-then-r-ne0 c =
@@ -30,26 +49,28 @@ returns-then-r-ne0 c =
 
 pub returns-then-r-extent : goal.returns-then-r-extent
 returns-then-r-extent c =
-    other_labels _ _ _ (read (goal.at.returns-then-r-extent c).In-Accepted) c.args.room.now c.not_made-then-r-extent.result c.not_made-then-r-extent.ensures c.if-r-ne0.false (λ q. c.if-r-extent.true (q ∙ sym ((let it : c.extent_of-extent.result.labels ≡ labels_of (edges_in c.args.p c.args.file.now) = ap (λ (x : Extent). x.labels) c.extent_of-extent.ensures in it))))
+    let at = goal.at.returns-then-r-extent c in
+    other_labels _ _ _ (read at.In-Accepted) c.args.room.now c.not_made-then-r-extent.result c.not_made-then-r-extent.ensures c.if-r-ne0.false
+    (λ q. c.if-r-extent.true (q ∙ sym (labels at.After-extent_of-extent)))
 
 pub returns-then-room-extent : goal.returns-then-room-extent
 returns-then-room-extent c =
-    short_room _ _ _ (read (goal.at.returns-then-room-extent c).In-Accepted) c.args.room.now c.not_made-then-room-extent.result c.not_made-then-room-extent.ensures ((let it : let a = c.args in drawable (filter_in a.p a.file.now) ≡ true = can_draw _ _ _ (read c) c.args.room.now c.if-r-ne0.false (c.if-r-extent.false ∙ (let it : c.extent_of-extent.result.labels ≡ labels_of (edges_in c.args.p c.args.file.now) = ap (λ (x : Extent). x.labels) c.extent_of-extent.ensures in it)) in it)) (omega (arith, (let it : c.extent_of-extent.result.length ≡ length (text_of c.args.p c.args.file.now) = ap (λ (x : Extent). x.length) c.extent_of-extent.ensures in it), c.if-room-extent.true))
+    let at = goal.at.returns-then-room-extent c in
+    short_room _ _ _ (read at.In-Accepted) c.args.room.now c.not_made-then-room-extent.result c.not_made-then-room-extent.ensures
+    (drawable_now at.Else-r-extent (read at.In-Accepted) (labels at.After-extent_of-extent))
+    (omega (arith, long at.After-extent_of-extent, c.if-room-extent.true))
 
 pub put-requires : goal.put-requires
-put-requires c = (
-  (let it : let first = c.args in Plottable first.p first.file.now c.colours_of-colours.result c.checked-1.given.0.0.states c.checked-1.given.0.0.edges = let a = read c in
-      record { usable = c.requires.0; coloured = c.colours_of-colours.ensures; states = a.states_are; edges = a.count_is } in it),
-  omega (arith, (let it : c.extent_of-extent.result.length ≡ length (text_of c.args.p c.args.file.now) = ap (λ (x : Extent). x.length) c.extent_of-extent.ensures in it), c.if-room-extent.false),
-)
+put-requires c =
+    let at = goal.at.put-requires c in
+    let a = read at.In-Accepted in (
+      record { usable = c.requires.0; coloured = c.colours_of-colours.ensures; states = a.states_are; edges = a.count_is },
+      omega (arith, long at.After-extent_of-extent, c.if-room-extent.false),
+    )
 
 pub returns : goal.returns
 returns c =
-    drawn-laid _ _ _ (read (goal.at.returns c).In-Accepted) c.args.room.now c.extent_of-extent.result.length _ ((let it : c.extent_of-extent.result.length ≡ length (text_of c.args.p c.args.file.now) = ap (λ (x : Extent). x.length) c.extent_of-extent.ensures in it)) c.put.ensures ((let it : let a = c.args in drawable (filter_in a.p a.file.now) ≡ true = can_draw _ _ _ (read c) c.args.room.now c.if-r-ne0.false (c.if-r-extent.false ∙ (let it : c.extent_of-extent.result.labels ≡ labels_of (edges_in c.args.p c.args.file.now) = ap (λ (x : Extent). x.labels) c.extent_of-extent.ensures in it)) in it)) (omega (arith, (let it : c.extent_of-extent.result.length ≡ length (text_of c.args.p c.args.file.now) = ap (λ (x : Extent). x.length) c.extent_of-extent.ensures in it), c.if-room-extent.false))
-
-pub colours_of-colours-requires : goal.colours_of-colours-requires
-colours_of-colours-requires c = (c.requires.0, (read c).states_are)
-
-pub extent_of-extent-requires : goal.extent_of-extent-requires
-extent_of-extent-requires c = (let it : let first = c.args in Plottable first.p first.file.now c.colours_of-colours.result c.checked-1.given.0.0.states c.checked-1.given.0.0.edges = let a = read c in
-    record { usable = c.requires.0; coloured = c.colours_of-colours.ensures; states = a.states_are; edges = a.count_is } in it)
+    let at = goal.at.returns c in
+    drawn-laid _ _ _ (read at.In-Accepted) c.args.room.now c.extent_of-extent.result.length _ (long at.After-extent_of-extent) c.put.ensures
+    (drawable_now at.Else-r-extent (read at.In-Accepted) (labels at.After-extent_of-extent))
+    (omega (arith, long at.After-extent_of-extent, c.if-room-extent.false))

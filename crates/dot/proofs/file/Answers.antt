@@ -8,12 +8,12 @@ use Rattle.dot.proofs.file.Goals as goal
 pub returns-in_default : goal.returns-in_default
 returns-in_default c =
     let a = c.args in
-    file_refused a.p a.text.now a.room.now c.test-answer.result c.enum_told-1.given.0.0 c.test-answer.ensures c.enum_told-1.given.1
+    file_refused a.p a.text.now a.room.now c.test-answer.result c.in_default.field-0 c.test-answer.ensures c.in_default.is
 
 pub write-requires : goal.write-requires
 write-requires c =
     let a = c.args in
-    let h = sym c.test-answer.ensures ∙ ap made_outcome c.answer-1.given.1 in
+    let h = sym c.test-answer.ensures ∙ ap made_outcome c.in-Accepted.is in
     let ok = passed a.p a.text.now a.s c.requires.known (length a.room.now) _ h in
     record { usable = c.requires.usable; known = c.requires.known; writable = ok.writable; roomy = ok.roomy }
 
@@ -21,4 +21,4 @@ pub returns : goal.returns
 returns c =
     let a = c.args in
     rw (c.write.ensures, ← file_is a.p a.text.now a.s c.requires.known)
-    (file_laid a.p a.text.now a.room.now c.test-answer.result c.answer-1.given.0.0 c.test-answer.ensures c.answer-1.given.1)
+    (file_laid a.p a.text.now a.room.now c.test-answer.result c.in-Accepted.length c.test-answer.ensures c.in-Accepted.is)

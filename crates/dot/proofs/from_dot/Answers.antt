@@ -10,7 +10,7 @@ use Rattle.dot.proofs.from_dot.Goals as goal
 
 pub file-requires : goal.file-requires
 file-requires c =
-    testable_of _ (rw c.large-p.ensures large_usable) _ _ _ (sym (ap found_of c.surveyed-1.given.1) ∙ c.survey_of-surveyed.ensures)
+    testable_of _ (rw c.large-p.ensures large_usable) _ _ _ (sym (ap found_of c.in-Inside.is) ∙ c.survey_of-surveyed.ensures)
 
 pub returns-in-Inside : goal.returns-in-Inside
 returns-in-Inside c =
@@ -19,5 +19,5 @@ returns-in-Inside c =
 pub returns-in-Outside : goal.returns-in-Outside
 returns-in-Outside c =
     let a = c.args in
-    outside_refused large a.text.now a.room.now c.surveyed-in-Outside-1.given.0.0 (record { kind = Drawing; place = c.surveyed-in-Outside-1.given.0.0 }) refl
-    (outside_of _ _ _ (sym (ap found_of c.surveyed-in-Outside-1.given.1) ∙ c.survey_of-surveyed.ensures))
+    outside_refused large a.text.now a.room.now c.in-Outside.place (record { kind = Drawing; place = c.in-Outside.place }) refl
+    (outside_of _ _ _ (sym (ap found_of c.in-Outside.is) ∙ c.survey_of-surveyed.ensures))
