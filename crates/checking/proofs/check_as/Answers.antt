@@ -81,6 +81,7 @@ returns-in_default-fault c =
     let passed = all_passed _ c.requires.0 _ _ head done in
     sym (check_faultless _ _ _ head _ refl done _ (found_never _ _ _ _ passed c.in_default-fault.is))
 
+-- every edge has passed
 pub first-requires : goal.first-requires
 first-requires c =
     let head = is_headed _ _ _ c.requires.0 c.requires.1 _ c.in-Accepted.is in

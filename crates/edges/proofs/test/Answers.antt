@@ -34,6 +34,8 @@ here edge e rank r b = r ∙ ap (λ (e : layout.Edge). rank_of (some (edge_of e)
 pub rank-here-requires : goal.rank-here-requires
 rank-here-requires c = rw c.bare.ensures c.requires
 
+-- behind the tests for 7 the order decides
+
 pub returns-then-here-last-2 : goal.returns-then-here-last-2
 returns-then-here-last-2 c before ranked =
     let edge = c.args.edge in

@@ -105,6 +105,7 @@ returns-in_default-fault c =
     loaded_told _ _ _ _ none _ _ head refl (sym (found_never _ _ _ _ passed c.in_default-fault.is)) clear
     (filling_done _ _ _ _ _ _ _ _ _ c.loop-cursor.invariant c.loop-cursor-test.false clear) c.loop-cursor.invariant.rows
 
+-- every edge has passed
 pub first-requires : goal.first-requires
 first-requires c =
     let ok = c.requires.loadable.usable in

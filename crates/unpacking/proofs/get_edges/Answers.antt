@@ -18,7 +18,7 @@ use Rattle.unpacking.specs.Promise.{Readable}
 use Rattle.unpacking.proofs.get_edges.Invariants.{Got}
 use Rattle.unpacking.proofs.get_edges.Goals as goal
 
--- what a cursor in the loop knows of its numbers
+-- the cursor's numbers are small
 near : (P : Profile) (file : List ℕ) (at e : ℕ) (found out : List ℕ) (cursor : Cursor) (o : ℕ) → Readable P at e found → Got P file at e found out cursor o →
     (cursor.place < 2 ^ 63) × (cursor.index < 2 ^ 63)
 near P file at e found out cursor o pre got = (
@@ -26,7 +26,7 @@ near P file at e found out cursor o pre got = (
   omega (arith, got.inside, pre.few),
 )
 
--- the three bytes of an edge have room
+-- the room for the edge that was read
 room : (P : Profile) (file : List ℕ) (at e : ℕ) (found out : List ℕ) (cursor : Cursor) (o : ℕ) → Readable P at e found → Got P file at e found out cursor o →
     cursor.index < e → o + 2 < length out
 room P file at e found out cursor o pre got less = omega (arith, got.behind, got.long, less, pre.holds)
