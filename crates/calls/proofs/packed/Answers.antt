@@ -3,4 +3,4 @@ use mathlib.Core.Path.{refl}
 use Rattle.calls.proofs.packed.Goals as goal
 
 pub returns-in-Accepted : goal.returns-in-Accepted
-returns-in-Accepted c = rw c.answer-1.given.1 (record { number_is = refl; place_is = refl; counts_are = refl })
+returns-in-Accepted c = rw c.in-Accepted.is (record { number_is = refl; place_is = refl; counts_are = refl })

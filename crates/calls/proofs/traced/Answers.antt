@@ -3,4 +3,4 @@ use mathlib.Core.Path.{refl}
 use Rattle.calls.proofs.traced.Goals as goal
 
 pub returns-in-Stopped : goal.returns-in-Stopped
-returns-in-Stopped c = rw c.answer-1.given.1 (record { number_is = refl; place_is = refl; counts_are = refl })
+returns-in-Stopped c = rw c.in-Stopped.is (record { number_is = refl; place_is = refl; counts_are = refl })

@@ -2,4 +2,4 @@
 use Rattle.calls.proofs.unpacked.Goals as goal
 
 pub returns-in-Accepted : goal.returns-in-Accepted
-returns-in-Accepted c = rw c.answer-1.given.1 c.of_reading.ensures
+returns-in-Accepted c = rw c.in-Accepted.is c.of_reading.ensures

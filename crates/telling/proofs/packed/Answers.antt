@@ -5,7 +5,7 @@ use Rattle.telling.proofs.Telling.{spoken_accepted, spoken_refused}
 use Rattle.telling.proofs.packed.Goals as goal
 
 pub returns-in-Accepted : goal.returns-in-Accepted
-returns-in-Accepted c = spoken_accepted _ c.tell_length.result _ _ (ap packed_outcome c.answer-1.given.1) c.tell_length.ensures.0 c.tell_length.ensures.1
+returns-in-Accepted c = spoken_accepted _ c.tell_length.result _ _ (ap packed_outcome c.in-Accepted.is) c.tell_length.ensures.0 c.tell_length.ensures.1
 
 pub returns-in-Refused : goal.returns-in-Refused
-returns-in-Refused c = spoken_refused _ c.code.result _ _ (ap packed_outcome c.answer-in-Refused-1.given.1) c.code.ensures
+returns-in-Refused c = spoken_refused _ c.code.result _ _ (ap packed_outcome c.in-Refused.is) c.code.ensures

@@ -5,10 +5,10 @@ use Rattle.telling.proofs.Telling.{spoken_accepted, spoken_refused}
 use Rattle.telling.proofs.traced.Goals as goal
 
 pub returns-in-All : goal.returns-in-All
-returns-in-All c = spoken_accepted _ c.tell_ride.result _ _ (ap traced_outcome c.enum_told-1.given.1) c.tell_ride.ensures.0 c.tell_ride.ensures.1
+returns-in-All c = spoken_accepted _ c.tell_ride.result _ _ (ap traced_outcome c.in-All.is) c.tell_ride.ensures.0 c.tell_ride.ensures.1
 
 pub returns-in-Stopped : goal.returns-in-Stopped
-returns-in-Stopped c = spoken_accepted _ c.tell_ride-in-Stopped.result _ _ (ap traced_outcome c.answer-1.given.1) c.tell_ride-in-Stopped.ensures.0 c.tell_ride-in-Stopped.ensures.1
+returns-in-Stopped c = spoken_accepted _ c.tell_ride-in-Stopped.result _ _ (ap traced_outcome c.in-Stopped.is) c.tell_ride-in-Stopped.ensures.0 c.tell_ride-in-Stopped.ensures.1
 
 pub returns-in-Refused : goal.returns-in-Refused
-returns-in-Refused c = spoken_refused _ c.code.result _ _ (ap traced_outcome c.answer-in-Refused-1.given.1) c.code.ensures
+returns-in-Refused c = spoken_refused _ c.code.result _ _ (ap traced_outcome c.in-Refused.is) c.code.ensures
