@@ -37,7 +37,7 @@ returns-then-value-at c =
 
 pub overflow_add-result-then-not-stands-2 : goal.overflow_add-result-then-not-stands-2
 overflow_add-result-then-not-stands-2 c =
-    omega (arith, c.matched-then-not-stands-2.ensures, matched-inside c.args.text.now c.number_at-value.result.end line_end ((let it : c.number_at-value.result.end ≤ length c.args.text.now = rw c.number_at-value.ensures.0 (number-inside _ _ (there (goal.at.overflow_add-result-then-not-stands-2 c).Else-not-stands)) in it)))
+    omega (arith, c.matched-then-not-stands-2.ensures, matched-inside c.args.text.now c.number_at-value.result.end line_end (rw c.number_at-value.ensures.0 (number-inside _ _ (there (goal.at.overflow_add-result-then-not-stands-2 c).Else-not-stands))))
 
 pub returns-then-not-stands-2 : goal.returns-then-not-stands-2
 unfolding labelled_at

@@ -20,18 +20,18 @@ mark-requires c = c.loop-colour.invariant.marked.long
 pub with_state-s-requires : goal.with_state-s-requires
 with_state-s-requires c =
     let loop = c.loop-colour in
-    countable _ _ _ loop.s _ loop.testing loop.invariant (short (goal.at.with_state-s-requires c).At-loop-colour) _ (state_on _ _ _ loop.s _ loop.testing loop.invariant _ _ ((let it : statement_at c.args.text.now c.loop-colour.at c.loop-colour.s.next ≡ statement.State c.in-State.colour c.in-State.end = sym c.statement_at-statement.ensures ∙ c.in-State.is in it))).2
+    countable _ _ _ loop.s _ loop.testing loop.invariant (short (goal.at.with_state-s-requires c).At-loop-colour) _ (state_on _ _ _ loop.s _ loop.testing loop.invariant _ _ (sym c.statement_at-statement.ensures ∙ c.in-State.is)).2
 
 pub loop-colour-smaller-in-State : goal.loop-colour-smaller-in-State
 loop-colour-smaller-in-State c =
     let loop = c.loop-colour in
-    let on = state_on _ _ _ loop.s _ loop.testing loop.invariant _ _ ((let it : statement_at c.args.text.now c.loop-colour.at c.loop-colour.s.next ≡ statement.State c.in-State.colour c.in-State.end = sym c.statement_at-statement.ensures ∙ c.in-State.is in it)) in
+    let on = state_on _ _ _ loop.s _ loop.testing loop.invariant _ _ (sym c.statement_at-statement.ensures ∙ c.in-State.is) in
     omega (arith, on.0, on.1)
 
 pub loop-colour-preserved-in-State : goal.loop-colour-preserved-in-State
 loop-colour-preserved-in-State c =
     let loop = c.loop-colour in
-    rw c.with_state-s.ensures (step_state _ _ _ loop.s _ loop.testing loop.invariant _ _ _ ((let it : statement_at c.args.text.now c.loop-colour.at c.loop-colour.s.next ≡ statement.State c.in-State.colour c.in-State.end = sym c.statement_at-statement.ensures ∙ c.in-State.is in it)) c.mark.ensures)
+    rw c.with_state-s.ensures (step_state _ _ _ loop.s _ loop.testing loop.invariant _ _ _ (sym c.statement_at-statement.ensures ∙ c.in-State.is) c.mark.ensures)
 
 pub with_edge-testing-requires : goal.with_edge-testing-requires
 with_edge-testing-requires c =
@@ -41,18 +41,18 @@ with_edge-testing-requires c =
 pub with_edge-s-requires : goal.with_edge-s-requires
 with_edge-s-requires c =
     let loop = c.loop-colour in
-    countable _ _ _ loop.s _ loop.testing loop.invariant (short (goal.at.with_edge-s-requires c).At-loop-colour) _ (edge_on _ _ _ loop.s _ loop.testing loop.invariant _ _ ((let it : statement_at c.args.text.now c.loop-colour.at c.loop-colour.s.next ≡ statement.Edge c.in-Edge.edge c.in-Edge.end = sym c.statement_at-statement.ensures ∙ c.in-Edge.is in it))).2
+    countable _ _ _ loop.s _ loop.testing loop.invariant (short (goal.at.with_edge-s-requires c).At-loop-colour) _ (edge_on _ _ _ loop.s _ loop.testing loop.invariant _ _ (sym c.statement_at-statement.ensures ∙ c.in-Edge.is)).2
 
 pub loop-colour-smaller : goal.loop-colour-smaller
 loop-colour-smaller c =
     let loop = c.loop-colour in
-    let on = edge_on _ _ _ loop.s _ loop.testing loop.invariant _ _ ((let it : statement_at c.args.text.now c.loop-colour.at c.loop-colour.s.next ≡ statement.Edge c.in-Edge.edge c.in-Edge.end = sym c.statement_at-statement.ensures ∙ c.in-Edge.is in it)) in
+    let on = edge_on _ _ _ loop.s _ loop.testing loop.invariant _ _ (sym c.statement_at-statement.ensures ∙ c.in-Edge.is) in
     omega (arith, on.0, on.1)
 
 pub loop-colour-preserved : goal.loop-colour-preserved
 loop-colour-preserved c =
     let loop = c.loop-colour in
-    rw c.with_edge-s.ensures (step_edge _ _ _ loop.s _ loop.testing loop.invariant _ _ _ ((let it : statement_at c.args.text.now c.loop-colour.at c.loop-colour.s.next ≡ statement.Edge c.in-Edge.edge c.in-Edge.end = sym c.statement_at-statement.ensures ∙ c.in-Edge.is in it)) c.with_edge-testing.ensures)
+    rw c.with_edge-s.ensures (step_edge _ _ _ loop.s _ loop.testing loop.invariant _ _ _ (sym c.statement_at-statement.ensures ∙ c.in-Edge.is) c.with_edge-testing.ensures)
 
 pub returns-in-Closing : goal.returns-in-Closing
 returns-in-Closing c =
