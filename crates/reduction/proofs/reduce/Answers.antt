@@ -13,12 +13,12 @@ states-n-requires c = rw c.large.ensures large_usable
 
 pub reduce_with-requires : goal.reduce_with-requires
 reduce_with-requires c =
-    serves _ _ _ _ 16 large_usable (lit≤ tt) c.small_targets-targets.ensures c.small_labels-labels.ensures (omega (arith, (let it : c.states-n.result ≡ states_in large c.args.file.now = rw c.large.ensures at c.states-n.ensures.0 in it), c.if-n-le16.true))
+    serves _ _ _ _ 16 large_usable (lit≤ tt) c.small_targets-targets.ensures c.small_labels-labels.ensures (omega (arith, rw c.large.ensures at c.states-n.ensures.0, c.if-n-le16.true))
 
 pub reduce_with-requires-then-n-le64 : goal.reduce_with-requires-then-n-le64
 reduce_with-requires-then-n-le64 c =
-    serves _ _ _ _ 64 large_usable (lit≤ tt) c.middle_targets-targets.ensures c.middle_labels-labels.ensures (omega (arith, (let it : c.states-n.result ≡ states_in large c.args.file.now = rw c.large.ensures at c.states-n.ensures.0 in it), c.if-n-le64.true))
+    serves _ _ _ _ 64 large_usable (lit≤ tt) c.middle_targets-targets.ensures c.middle_labels-labels.ensures (omega (arith, rw c.large.ensures at c.states-n.ensures.0, c.if-n-le64.true))
 
 pub reduce_with-requires-2 : goal.reduce_with-requires-2
 reduce_with-requires-2 c =
-    serves _ _ _ _ 256 large_usable (lit≤ tt) c.all_targets-targets.ensures c.all_labels-labels.ensures (omega (arith, (let it : c.states-n.result ≡ states_in large c.args.file.now = rw c.large.ensures at c.states-n.ensures.0 in it), c.states-n.ensures.1))
+    serves _ _ _ _ 256 large_usable (lit≤ tt) c.all_targets-targets.ensures c.all_labels-labels.ensures (omega (arith, rw c.large.ensures at c.states-n.ensures.0, c.states-n.ensures.1))

@@ -1,8 +1,5 @@
 -- `reduction::reduce_as` meets its contract: the check's answer decides, then the rooms, and then the file is reduced. Assumes nothing.
--- ---- what is known of an accepted file
--- ---- the needs
 use native.Mathlib.Omega.{arith}
-use Rattle.files.specs.Tests.{ReadIs}
 use Rattle.checking.proofs.Calls.{refused_is, read_is}
 use Rattle.folding.specs.Folding.{rooms}
 use Rattle.reduction.proofs.Calls.{reduce_refused, reduce-short, reduce_few, reduce_folded}
@@ -11,24 +8,24 @@ use Rattle.reduction.proofs.reduce_as.Goals as goal
 pub returns-in_default : goal.returns-in_default
 returns-in_default c =
     let a = c.args in
-    reduce_refused a.p a.file.now ((rooms c.args.answer.now c.args.classes.now)) c.refusal.result
-    (refused_is a.p a.file.now a.checked c.requires.answer c.enum_told-1.given.0.0 c.refusal.result c.enum_told-1.given.1 c.refusal.ensures)
+    reduce_refused a.p a.file.now (rooms a.answer.now a.classes.now) c.refusal.result
+    (refused_is a.p a.file.now a.checked c.requires.answer c.in_default.field-0 c.refusal.result c.in_default.is c.refusal.ensures)
 
 pub returns-then-answer-file : goal.returns-then-answer-file
 returns-then-answer-file c =
     let a = c.args in
-    rw c.plain.ensures (reduce-short a.p a.file.now ((rooms c.args.answer.now c.args.classes.now)) _ ((let it : ReadIs c.args.p c.args.file.now ((c.checked-1.given.0.0)) = read_is _ _ c.args.checked c.requires.answer ((c.checked-1.given.0.0)) c.checked-1.given.1 in it)).answer c.if-answer-file.true)
+    rw c.plain.ensures (reduce-short a.p a.file.now (rooms a.answer.now a.classes.now) _ (read_is _ _ c.args.checked c.requires.answer _ c.in-Accepted.is).answer c.if-answer-file.true)
 
 pub returns-then-classes-reading : goal.returns-then-classes-reading
 returns-then-classes-reading c =
     let a = c.args in
-    let is = (let it : ReadIs c.args.p c.args.file.now ((c.checked-1.given.0.0)) = read_is _ _ c.args.checked c.requires.answer ((c.checked-1.given.0.0)) c.checked-1.given.1 in it) in
-    rw c.plain-then-classes-reading.ensures (reduce_few a.p a.file.now ((rooms c.args.answer.now c.args.classes.now)) _ is.answer c.if-answer-file.false (omega (arith, c.if-classes-reading.true, is.states_are)))
+    let is = read_is _ _ c.args.checked c.requires.answer _ c.in-Accepted.is in
+    rw c.plain-then-classes-reading.ensures (reduce_few a.p a.file.now (rooms a.answer.now a.classes.now) _ is.answer c.if-answer-file.false (omega (arith, c.if-classes-reading.true, is.states_are)))
 
 pub fold-requires : goal.fold-requires
 fold-requires c =
     let pre = c.requires in
-    let is = (let it : ReadIs c.args.p c.args.file.now ((c.checked-1.given.0.0)) = read_is _ _ c.args.checked c.requires.answer ((c.checked-1.given.0.0)) c.checked-1.given.1 in it) in
+    let is = read_is _ _ c.args.checked c.requires.answer _ c.in-Accepted.is in
     record {
       usable = pre.usable;
       labels≤6 = pre.labels≤6;
@@ -42,5 +39,5 @@ fold-requires c =
 pub returns : goal.returns
 returns c =
     let a = c.args in
-    let is = (let it : ReadIs c.args.p c.args.file.now ((c.checked-1.given.0.0)) = read_is _ _ c.args.checked c.requires.answer ((c.checked-1.given.0.0)) c.checked-1.given.1 in it) in
-    reduce_folded a.p a.file.now ((rooms c.args.answer.now c.args.classes.now)) _ is.answer c.if-answer-file.false (omega (arith, c.if-classes-reading.false, is.states_are)) c.fold.result _ c.fold.ensures
+    let is = read_is _ _ c.args.checked c.requires.answer _ c.in-Accepted.is in
+    reduce_folded a.p a.file.now (rooms a.answer.now a.classes.now) _ is.answer c.if-answer-file.false (omega (arith, c.if-classes-reading.false, is.states_are)) c.fold.result _ c.fold.ensures

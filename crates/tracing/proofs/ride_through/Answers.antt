@@ -14,17 +14,17 @@ step-step-requires c =
 pub loop-ride-smaller : goal.loop-ride-smaller
 loop-ride-smaller c =
     underway_less _ _ _ _ _ c.requires _ _ c.loop-ride.invariant c.loop-ride-test.true _ c.wide_byte.ensures.0 _ c.step-step.ensures _
-    c.step-1.given.1
+    c.in-Next.is
 
 pub loop-ride-preserved : goal.loop-ride-preserved
 loop-ride-preserved c =
     underway_on _ _ _ _ _ c.requires _ _ c.loop-ride.invariant c.loop-ride-test.true _ c.wide_byte.ensures.0 _ c.step-step.ensures _
-    c.step-1.given.1
+    c.in-Next.is
 
 pub returns-in-Stopped : goal.returns-in-Stopped
 returns-in-Stopped c =
     underway_stops _ _ _ _ _ c.requires _ _ c.loop-ride.invariant c.loop-ride-test.true _ c.wide_byte.ensures.0 _ c.step-step.ensures _
-    c.step-in-Stopped-1.given.1
+    c.in-Stopped.is
 
 pub returns : goal.returns
 returns c =
