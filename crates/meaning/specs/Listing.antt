@@ -9,7 +9,7 @@ use mathlib.Core.List.{List, [], ◌∷◌, ◌++◌}
 use native.Mathlib.Omega.{arith}
 use Rattle.std.proofs.Math.Dec.{eqb}
 use borrow.Author.Tests.{eqb-true, eqb-false, eq-eqb, ne_eqb, lt-ltb}
-use Rattle.meaning.specs.Search.{count, at, bit}
+use Rattle.meaning.specs.Search.{count, bit}
 use Rattle.meaning.specs.Cases.{cases_of, same², and_intro, and_left, and_right, no_both, or_right}
 use Rattle.meaning.specs.SearchLaws.{count_max, count_mono}
 use Rattle.meaning.specs.Filter.{Edge, leads, ascending, comes_before, each}

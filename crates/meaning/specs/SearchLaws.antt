@@ -2,7 +2,7 @@
 use Prim.Native.Nat.{ℕ, zero, suc, ◌+◌, ◌≤◌, ◌<◌}
 use Rattle.std.specs.Prelude.{◌≡◌, Bool, true, false, ◌&&◌, ◌||◌, List, [], ◌∷◌, ◌++◌, eqb, ltb, length, take, set}
 use Rattle.std.proofs.Math.Path.{refl, ap, ap₂}
-use Rattle.std.proofs.Common.{sym, ◌∙◌, not-suc-le-zero, arith, take-suc-set, add-one}
+use Rattle.std.proofs.Common.{◌∙◌, not-suc-le-zero, arith, take-suc-set, add-one}
 use Rattle.std.proofs.Math.Bool.{not}
 use borrow.Author.Tests.{eqb-true, eqb-false, ne_eqb, ltb-true, ltb-false}
 use Rattle.meaning.specs.Cases.{cases_of, no_both, or_right}

@@ -3,23 +3,23 @@
 use mathlib.Core.Path.{◌≡◌, refl, sym, ap, ◌∙◌, fun_ext}
 use mathlib.Core.Bool.{Bool, true, false, not, ◌&&◌, ◌||◌}
 use mathlib.Core.List.{List, []}
-use mathlib.Core.Option.{Option, none, some}
+use mathlib.Core.Option.{none, some}
 use Prim.Native.Nat.{ℕ, ◌+◌, ◌*◌, ◌≤◌, ◌<◌}
 use native.Mathlib.Decide.{dec_lt, ℕ_discrete}
 use native.Mathlib.Omega.{arith}
-use lib.Dec.{eqb, ltb}
+use lib.Dec.{eqb}
 use lib.ListN.{length, length-set, set, replicate}
 use lib.Seq.{get_or-set_same, get_or-set_other}
-use borrow.Author.Tests.{lt-ltb, le-ltb, ltb-true, ltb-false, eq-eqb, ne_eqb, eqb-true, eqb-false}
+use borrow.Author.Tests.{lt-ltb, le-ltb, eq-eqb, ne_eqb, eqb-true, eqb-false}
 use Rattle.meaning.specs.Search.{at}
 use Rattle.meaning.specs.Pick.{pick}
 use Rattle.meaning.specs.Cases.{impossible, cases_of, no_both, and_intro, and_left, same²}
 use Rattle.meaning.specs.Reduced.{has}
 use Rattle.meaning.specs.Trace.{target}
-use Rattle.sets.specs.Sets.{holds, Lowest}
+use Rattle.sets.specs.Sets.{holds}
 use Rattle.sets.proofs.Laws.{holds_none}
 use Rattle.sets.proofs.FourLaws.{blank, words_with}
-use Rattle.table.specs.Table.{Table, table, look, Rows, SameRows, with_edge, or, given}
+use Rattle.table.specs.Table.{Table, table, look, Rows, with_edge, or, given}
 
 -- ---- one state at one label
 

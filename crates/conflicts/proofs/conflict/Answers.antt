@@ -13,9 +13,6 @@ returns-then-names-target c =
     let left = c.target.ensures.0 in
     sym (calm_broken _ _ _ _ _ _ _ _ loop.invariant lowest left c.target-in-loop-rest.ensures.0 c.if-names-target.true)
 
-pub loop-rest-smaller : goal.loop-rest-smaller
-loop-rest-smaller c = c.without_lowest-rest.ensures.0
-
 pub loop-rest-preserved : goal.loop-rest-preserved
 loop-rest-preserved c =
     let loop = c.loop-rest in

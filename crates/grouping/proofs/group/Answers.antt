@@ -1,4 +1,4 @@
-use Prim.Native.Nat.{◌≤◌, ◌+◌, ◌-◌}
+use Prim.Native.Nat.{◌≤◌, ◌+◌}
 use native.Mathlib.Omega.{arith}
 use mathlib.Core.Path.{◌≡◌}
 use Rattle.table.specs.Table.{table}
@@ -14,19 +14,6 @@ loop-s-init c =
     let low : c.args.c ≤ 256 = omega (arith, head.inside, c.requires.0.few) in
     let none = grouped_none _ _ _ _ c.requires.2 in
     (at_head _ _ _ head, grouped_skip _ _ _ _ 0 _ none (omega arith) low (λ x h l. head.before x l))
-
-pub mark-marks-requires : goal.mark-marks-requires
-mark-marks-requires c =
-    let pre = c.requires in
-    let here = c.loop-s-test.true in (
-      pre.0,
-      pre.1,
-      record {
-        inside = here;
-        member = c.loop-s.invariant.0.member here;
-        groups_long = c.loop-s.invariant.1.long;
-      },
-    )
 
 -- the smallest group without a mark is the group of s
 chosen : (c : After-smallest_missing)
@@ -45,19 +32,12 @@ overflow_cast-into c =
     let here = c.loop-s-test.true in
     record { fits = omega (arith, group_is_low _ _ _ _ _ _ (chosen c), here, c.requires.0.few) }
 
-pub bounds-into-s : goal.bounds-into-s
-bounds-into-s c = omega (arith, c.loop-s.invariant.1.long)
-
 step : (c : After-wide-s)
     → let a = c.args in
     Hop a.names.now a.n a.c c.loop-s.s c.wide-s.result
 step c =
     let here = c.loop-s-test.true in
     hop _ _ _ c.requires.0.linked _ _ _ c.loop-s.invariant.0 here c.wide-s.ensures
-
-pub loop-s-smaller : goal.loop-s-smaller
-loop-s-smaller c = let next = step c in
-    omega (arith, next.after, next.stands.inside)
 
 pub loop-s-preserved : goal.loop-s-preserved
 loop-s-preserved c =

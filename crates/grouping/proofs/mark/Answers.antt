@@ -1,4 +1,4 @@
-use Prim.Native.Nat.{◌+◌, ◌-◌}
+use Prim.Native.Nat.{◌+◌}
 use native.Mathlib.Omega.{arith}
 use mathlib.Core.Path.{sym, ap, ◌∙◌}
 use borrow.Author.Tests.{not-false}
@@ -20,21 +20,12 @@ loop-t-init c =
       marked_skip _ _ _ _ _ _ _ 0 (marked_none _ _ _ _ _) _ (omega arith) (λ x h l. head.before x l),
     )
 
-pub unmarked-requires : goal.unmarked-requires
-unmarked-requires c =
-    let marked = c.loop-t.invariant.2 in
-    (marked.below, c.wide_byte-group.ensures.1, marked.long)
-
 step : (c : After-wide-t)
     → let a = c.args in
     Hop a.names.now a.n a.c c.loop-t.t c.wide-t.result
 step c =
     let pre = c.requires in
     hop _ _ _ pre.0.linked _ _ _ c.loop-t.invariant.1 (omega (arith, pre.2.inside)) c.wide-t.ensures
-
-pub loop-t-smaller : goal.loop-t-smaller
-loop-t-smaller c = let next = step c in
-    omega (arith, next.after, next.stands.inside)
 
 pub loop-t-preserved : goal.loop-t-preserved
 loop-t-preserved c =
@@ -61,12 +52,3 @@ loop-t-preserved c =
 
 pub returns : goal.returns
 returns c = marked_all _ _ _ _ _ _ _ _ c.loop-t.invariant.2 (omega arith)
-
-pub bounds-words-w : goal.bounds-words-w
-bounds-words-w c = omega (arith, c.wide_byte-group.ensures.1)
-
-pub bounds-words-w-then-conflict : goal.bounds-words-w-then-conflict
-bounds-words-w-then-conflict c = omega (arith, c.wide_byte-group.ensures.1)
-
-pub overflow_add-group : goal.overflow_add-group
-overflow_add-group c = omega (arith, c.wide_byte-group.ensures.1)

@@ -1,5 +1,5 @@
 -- `members::follow` meets its contract. The invariant: the states that the list has from place j on are linked. Assumes nothing.
-use Prim.Native.Nat.{◌≤◌, ◌-◌}
+use Prim.Native.Nat.{◌≤◌}
 use lib.ListN.{length}
 use Rattle.members.proofs.Laws.{Linking}
 use Rattle.members.proofs.follow.Given as goal

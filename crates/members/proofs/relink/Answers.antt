@@ -25,9 +25,6 @@ step c =
     let same = inv.2.still c.loop-s.s here (λ l. absurd (omega arith)) in
     hop _ _ _ inv.0.linked _ _ _ inv.1 here (c.wide-behind.ensures ∙ same)
 
-state-fits : (c : In-loop-s) → c.loop-s.s < 256
-state-fits c = omega (arith, c.loop-s.invariant.0.few)
-
 -- a new name has a place of its own
 name-fits : (c : After-wide-d) → c.wide-d.result < 256
 name-fits c =
@@ -40,10 +37,6 @@ name-fits c =
 last-fits : {old P next₀ next latest : List ℕ} {n c s : ℕ} → Relinked old P n c next₀ next latest s → n ≤ 256 → s < n → (d : ℕ) → d < 256
     → (at latest d ≡ 65535 → ⊥) → at latest d < 256
 last-fits r few here d low some = omega (arith, (r.known d low).before some)
-
-pub loop-s-smaller : goal.loop-s-smaller
-loop-s-smaller c = let next = step (goal.at.loop-s-smaller c).After-wide-behind in
-    omega (arith, next.after, next.stands.inside)
 
 pub loop-s-preserved : goal.loop-s-preserved
 loop-s-preserved c =
@@ -64,40 +57,7 @@ pub returns : goal.returns
 returns c = let inv = c.loop-s.invariant in
     relinked_all inv.0 inv.2 inv.1.inside c.loop-s-test.false
 
-pub offset_bounds-next-s : goal.offset_bounds-next-s
-offset_bounds-next-s c = omega (arith, state-fits c)
-
-pub offset_bounds-names-s : goal.offset_bounds-names-s
-offset_bounds-names-s c = omega (arith, state-fits (goal.at.offset_bounds-names-s c).In-loop-s)
-
-pub bounds-names-s : goal.bounds-names-s
-bounds-names-s c = state-fits (goal.at.bounds-names-s c).In-loop-s
-
-pub offset_bounds-latest-d : goal.offset_bounds-latest-d
-offset_bounds-latest-d c = omega (arith, name-fits c)
-
-pub overflow_cast-next : goal.overflow_cast-next
-overflow_cast-next c = omega (arith, state-fits (goal.at.overflow_cast-next c).In-loop-s)
-
 pub offset_bounds-next-wide : goal.offset_bounds-next-wide
 offset_bounds-next-wide c =
     let inv = c.loop-s.invariant in
     omega (arith, c.wide.ensures, last-fits inv.2 inv.0.few c.loop-s-test.true c.wide-d.result (name-fits (goal.at.offset_bounds-next-wide c).After-wide-d) c.if-before.true)
-
-pub overflow_cast-latest : goal.overflow_cast-latest
-overflow_cast-latest c = omega (arith, state-fits (goal.at.overflow_cast-latest c).In-loop-s)
-
-pub offset_bounds-latest-d-in-loop-s : goal.offset_bounds-latest-d-in-loop-s
-offset_bounds-latest-d-in-loop-s c = omega (arith, name-fits (goal.at.offset_bounds-latest-d-in-loop-s c).After-wide-d)
-
-pub bounds-latest-d-in-loop-s : goal.bounds-latest-d-in-loop-s
-bounds-latest-d-in-loop-s c = omega (arith, name-fits (goal.at.bounds-latest-d-in-loop-s c).After-wide-d)
-
-pub overflow_cast-next-in-loop-s : goal.overflow_cast-next-in-loop-s
-overflow_cast-next-in-loop-s c = omega (arith, c.loop-s.invariant.0.few)
-
-pub offset_bounds-next-s-in-loop-s : goal.offset_bounds-next-s-in-loop-s
-offset_bounds-next-s-in-loop-s c = omega (arith, state-fits (goal.at.offset_bounds-next-s-in-loop-s c).In-loop-s)
-
-pub bounds-next-s-in-loop-s : goal.bounds-next-s-in-loop-s
-bounds-next-s-in-loop-s c = state-fits (goal.at.bounds-next-s-in-loop-s c).In-loop-s

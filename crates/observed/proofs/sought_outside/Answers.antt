@@ -1,5 +1,4 @@
 use mathlib.Core.Path.{◌∙◌}
-use Prim.Native.Nat.{◌-◌}
 use native.Mathlib.Omega.{arith}
 use borrow.Author.Tests.{lt-ltb, le-ltb}
 use Rattle.observed.proofs.Laws.{outside_start, outside_here, outside_next, outside_end}
@@ -26,12 +25,3 @@ returns c =
     let loop = c.loop-i in
     let a = c.args in
     rw (le-ltb _ _ c.loop-i-test.false) (loop.invariant.1 ∙ outside_end a.m a.observations.now loop.i c.loop-i-test.false)
-
-pub bounds-observations-i : goal.bounds-observations-i
-bounds-observations-i c = omega arith
-
-pub overflow_add-i : goal.overflow_add-i
-overflow_add-i c = omega arith
-
-pub loop-i-smaller : goal.loop-i-smaller
-loop-i-smaller c = omega arith

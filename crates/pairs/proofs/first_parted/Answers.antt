@@ -1,11 +1,6 @@
-use Prim.Native.Nat.{◌<◌, ◌-◌}
+use Prim.Native.Nat.{◌<◌}
 use native.Mathlib.Omega.{arith}
-use mathlib.Core.Path.{◌≡◌, sym, ◌∙◌}
-use mathlib.Core.Bool.{false}
-use Rattle.meaning.specs.Classes.{parted}
-use Rattle.table.specs.Table.{table}
-use Rattle.conflicts.specs.Conflicts.{clash}
-use Rattle.members.proofs.Laws.{heads}
+use mathlib.Core.Path.{sym, ◌∙◌}
 use Rattle.pairs.proofs.Laws.{parted_none, parted_pair, parted_own, tried_more, tried_here, tried_all}
 use Rattle.pairs.proofs.first_parted.Goals as goal
 use Rattle.pairs.proofs.first_parted.Goals.{After-wide-c, then-names-c+in_default, else-names-c}
@@ -13,14 +8,6 @@ use Rattle.pairs.proofs.first_parted.Goals.{After-wide-c, then-names-c+in_defaul
 -- the state that is looked at is one of the n
 state-low : (c : After-wide-c) → c.wide-c.result < c.args.n
 state-low c = omega (arith, c.wide-c.ensures, c.requires.2.rises.below _ c.loop-j-test.true)
-
-state-fits : (c : After-wide-c) → c.wide-c.result < 256
-state-fits c = omega (arith, state-low c, c.requires.0.few)
-
-pub pair_in-found-requires : goal.pair_in-found-requires
-pair_in-found-requires c =
-    let pre = c.requires in
-    (pre.0, heads _ _ pre.1 _ (state-low (goal.at.pair_in-found-requires c).After-wide-c) c.if-names-c.true)
 
 pub returns-in-Pair : goal.returns-in-Pair
 returns-in-Pair c =
@@ -46,12 +33,3 @@ pub returns : goal.returns
 returns c =
     let pre = c.requires in
     tried_all _ _ _ _ pre.1 pre.2 _ c.loop-j.invariant.1 c.loop-j-test.false
-
-pub loop-j-init : goal.loop-j-init
-loop-j-init c = (omega arith, λ i h. absurd (omega arith))
-
-pub offset_bounds-names-c : goal.offset_bounds-names-c
-offset_bounds-names-c c = omega (arith, state-fits c)
-
-pub overflow_cast-c : goal.overflow_cast-c
-overflow_cast-c c = omega (arith, state-fits (goal.at.overflow_cast-c c).After-wide-c)

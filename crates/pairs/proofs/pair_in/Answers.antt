@@ -1,4 +1,3 @@
-use Prim.Native.Nat.{◌-◌}
 use native.Mathlib.Omega.{arith}
 use Rattle.conflicts.proofs.Laws.{calm_begun, calm_more, calm_broken, calm_all}
 use Rattle.members.proofs.Laws.{Hop, hop}
@@ -19,9 +18,6 @@ loop-b-init c =
 pub loop-rest-init : goal.loop-rest-init
 loop-rest-init c = (c.loop-b.invariant.nothing, calm_begun _ _ _ _ _ c.shared-rest.ensures)
 
-pub loop-rest-smaller : goal.loop-rest-smaller
-loop-rest-smaller c = c.without_lowest-rest.ensures.0
-
 pub loop-rest-preserved : goal.loop-rest-preserved
 loop-rest-preserved c =
     let inv = c.loop-rest.invariant in
@@ -39,10 +35,6 @@ behind-b c =
     let here = c.loop-b-test.true in
     hop _ _ _ linked _ _ _ c.loop-b.invariant.stands here c.wide-b-in-loop-b.ensures
 
-pub loop-b-smaller : goal.loop-b-smaller
-loop-b-smaller c = let next = behind-b c in
-    omega (arith, next.after, next.stands.inside)
-
 pub loop-b-preserved : goal.loop-b-preserved
 loop-b-preserved c =
     let calm = calm_all _ _ _ _ _ c.loop-rest.invariant.1 (omega (arith, c.loop-rest-test.false)) in
@@ -56,10 +48,6 @@ behind-a c =
     let linked = c.requires.0.linked in
     let here = c.search-test.true in
     hop _ _ _ linked _ _ _ c.search.invariant.stands here c.wide-a.ensures
-
-pub search-smaller : goal.search-smaller
-search-smaller c = let next = behind-a c in
-    omega (arith, next.after, next.stands.inside)
 
 pub search-preserved : goal.search-preserved
 search-preserved c =

@@ -1,19 +1,8 @@
-use Prim.Native.Nat.{ℕ, ◌≤◌, ◌<◌}
 use native.Mathlib.Omega.{arith}
-use mathlib.Core.List.{List}
 use mathlib.Core.Path.{◌≡◌, refl, sym, ap, ◌∙◌}
-use lib.ListN.{length}
 use Rattle.meaning.specs.Search.{at}
-use Rattle.reach.specs.Walking.{Rises}
 use Rattle.partition.proofs.Laws.{unlike_more, twin_here}
 use Rattle.partition.proofs.first_like.Goals as goal
-
--- a state that the list has has a colour
-listed-low : {live : List ℕ} {j : ℕ} → Rises 256 live → j < length live → (k s : ℕ) → k ≤ j → s ≡ at live k → s < 256
-listed-low r l k s h e = omega (arith, e, r.below k (omega (arith, h, l)))
-
-pub loop-i-init : goal.loop-i-init
-loop-i-init c = (omega arith, λ k h. absurd (omega arith))
 
 pub returns-then-colours-wide : goal.returns-then-colours-wide
 returns-then-colours-wide c =
@@ -37,9 +26,3 @@ returns c =
     let loop = c.loop-i in
     let all : loop.i ≡ c.args.j = omega (arith, loop.invariant.0, c.loop-i-test.false) in
     λ n r. twin_here _ _ n _ _ r (omega arith) c.requires.0 refl (rw all at loop.invariant.1)
-
-pub bounds-colours-wide : goal.bounds-colours-wide
-bounds-colours-wide c = listed-low c.requires.1 c.requires.0 _ _ (omega arith) c.wide.ensures
-
-pub bounds-colours-wide-in-loop-i : goal.bounds-colours-wide-in-loop-i
-bounds-colours-wide-in-loop-i c = listed-low c.requires.1 c.requires.0 _ _ c.loop-i.invariant.0 c.wide-in-loop-i.ensures

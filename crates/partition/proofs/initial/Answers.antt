@@ -1,4 +1,4 @@
-use Prim.Native.Nat.{◌<◌, ◌-◌}
+use Prim.Native.Nat.{◌<◌}
 use native.Mathlib.Omega.{arith}
 use mathlib.Core.Path.{refl}
 use Rattle.partition.proofs.Laws.{begun_none, begun_more, begun_all}
@@ -7,9 +7,6 @@ use Rattle.partition.proofs.initial.Goals.{After-wide}
 
 pub loop-j-init : goal.loop-j-init
 loop-j-init c = (omega arith, λ n r. begun_none _ _ n _ c.fresh-names.ensures.0)
-
-pub first_like-requires : goal.first_like-requires
-first_like-requires c = let pre = c.requires in (c.loop-j-test.true, pre.0, pre.1)
 
 -- the state that is named is one of 256
 state-fits : (c : After-wide) → c.wide.result < 256
@@ -28,6 +25,3 @@ pub returns : goal.returns
 returns c = λ n few r.
     let begun = c.loop-j.invariant.1 n r in
     record { long = begun.long; names = begun_all _ _ n _ _ begun c.loop-j-test.false few; rounds = refl }
-
-pub offset_bounds-names-wide : goal.offset_bounds-names-wide
-offset_bounds-names-wide c = omega (arith, state-fits c)

@@ -1,4 +1,3 @@
-use Prim.Native.Nat.{◌-◌}
 use native.Mathlib.Omega.{arith}
 use Rattle.table.specs.Table.{table, look}
 use Rattle.reach.proofs.Laws.{queue_none, walk_first, next_state, walk_more, walk_full, walk-all}
@@ -13,10 +12,6 @@ pub loop-i-init : goal.loop-i-init
 loop-i-init c =
     let a = c.args in
     rw (← walk_first (look (table a.targets.now a.labels.now)) 64 a.start a.codes.now) c.meet-met.ensures
-
--- the place that is visited is below 256
-pub bounds-codes-i : goal.bounds-codes-i
-bounds-codes-i c = omega (arith, c.loop-i-test.true, c.loop-i.invariant.queue.most)
 
 pub visit-met-requires : goal.visit-met-requires
 visit-met-requires c =

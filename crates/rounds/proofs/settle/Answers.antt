@@ -1,4 +1,3 @@
-use Prim.Native.Nat.{◌-◌}
 use native.Mathlib.Omega.{arith}
 use mathlib.Core.Path.{sym, ap, ◌∙◌}
 use Rattle.meaning.specs.Classes.{Classes}
@@ -12,11 +11,6 @@ pub initial-p-requires : goal.initial-p-requires
 initial-p-requires c =
     let pre = c.requires in
     (rises_below pre.0.few pre.1.rises, pre.0.colours_long)
-
-pub count-distinct-requires : goal.count-distinct-requires
-count-distinct-requires c =
-    let pre = c.requires in
-    (pre.0.few, (c.initial-p.ensures _ pre.0.few pre.1.rises).long)
 
 pub follow-requires : goal.follow-requires
 follow-requires c =

@@ -3,8 +3,6 @@ use Prim.Native.Nat.{ℕ}
 use mathlib.Core.Path.{sym, ap, subst, ◌∙◌}
 use mathlib.Core.Bool.{Bool}
 use mathlib.Core.List.{List}
-use native.Mathlib.Omega.{arith}
-use lib.Seq.{length-take-le}
 use Rattle.meaning.specs.Reach.{among}
 use Rattle.meaning.proofs.ReachLaws.{Bounded}
 use Rattle.meaning.specs.Classes.{groups}
@@ -17,13 +15,6 @@ use Rattle.rounds.proofs.settled.Goals.{Start}
 
 bounded : (c : Start) → let a = c.args in Bounded (look (table a.targets.now a.labels.now)) 64 a.n a.start
 bounded c = let a = c.args in look_bounded (table a.targets.now a.labels.now) a.n a.start c.requires.1 c.requires.0.inside
-
-pub slice_bounds-list-end : goal.slice_bounds-list-end
-slice_bounds-list-end c = let lists = c.live-count.ensures.0 in omega (arith, lists.few, c.requires.0.few, lists.long)
-
-pub slice_bounds-settle-end : goal.slice_bounds-settle-end
-slice_bounds-settle-end c =
-    let lists = c.live-count.ensures.0 in sym (length-take-le _ _ (omega (arith, lists.few, c.requires.0.few, lists.long)))
 
 pub settle-requires : goal.settle-requires
 settle-requires c = (

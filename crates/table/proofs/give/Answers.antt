@@ -8,15 +8,6 @@ use Rattle.table.proofs.give.Goals as goal
 pub loop-rest-init : goal.loop-rest-init
 loop-rest-init c = giving_begun _ _ _ _ _ _ c.less-rest.ensures
 
-pub bounds-targets-from : goal.bounds-targets-from
-bounds-targets-from c = omega (arith, c.loop-rest.invariant.same_length)
-
-pub bounds-targets-to : goal.bounds-targets-to
-bounds-targets-to c = omega (arith, c.loop-rest.invariant.same_length)
-
-pub loop-rest-smaller : goal.loop-rest-smaller
-loop-rest-smaller c = c.without_lowest-rest.ensures.0
-
 pub loop-rest-preserved : goal.loop-rest-preserved
 loop-rest-preserved c =
     let loop = c.loop-rest in
@@ -24,9 +15,6 @@ loop-rest-preserved c =
     let a = c.args in
     giving_more a.targets.now a.from a.to _ _ loop.targets loop.rest c.without_lowest-rest.result c.lowest-y.result loop.invariant c.requires.fact
     (omega (arith, c.requires.rows.1.targets_long)) lowest.0 lowest.1.there (λ j. c.without_lowest-rest.ensures.1 _ j lowest.1)
-
-pub shape_of-targets : goal.shape_of-targets
-shape_of-targets c = c.loop-rest.invariant.same_length
 
 pub returns : goal.returns
 returns c =

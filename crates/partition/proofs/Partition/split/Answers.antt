@@ -1,4 +1,4 @@
-use Prim.Native.Nat.{◌+◌, ◌-◌}
+use Prim.Native.Nat.{◌+◌}
 use native.Mathlib.Omega.{arith}
 use mathlib.Core.Path.{refl, ◌∙◌}
 use lib.ListN.{set}
@@ -7,11 +7,6 @@ use Rattle.members.proofs.Laws.{Hop, at_head, hop}
 use Rattle.partition.proofs.Laws.{Renamed, renamed_none, renamed_skip, renamed_new, renamed_again, renamed_as, renamed-all, rounded_by}
 use Rattle.partition.proofs.Partition.split.Goals as goal
 use Rattle.partition.proofs.Partition.split.Goals.{After-wide-s, then-firsts-g, else-firsts-g}
-
-pub group-requires : goal.group-requires
-group-requires c =
-    let pre = c.requires in
-    (pre.0, pre.1, c.zero_bytes-groups.ensures.0)
 
 pub loop-s-init : goal.loop-s-init
 loop-s-init c =
@@ -26,10 +21,6 @@ step : (c : After-wide-s)
 step c =
     let linked = c.requires.0.linked in
     hop _ _ _ linked _ _ _ c.loop-s.invariant.0 c.loop-s-test.true c.wide-s.ensures
-
-pub loop-s-smaller : goal.loop-s-smaller
-loop-s-smaller c = let next = step c in
-    omega (arith, next.after, next.stands.inside)
 
 pub loop-s-preserved : goal.loop-s-preserved
 loop-s-preserved c =
@@ -62,15 +53,3 @@ returns c =
           ∙ rounded_by _ _ _ _ _ made;
       rounds = refl;
     }
-
-pub bounds-firsts-g : goal.bounds-firsts-g
-bounds-firsts-g c = omega (arith, c.wide_byte-g.ensures.1)
-
-pub bounds-firsts-g-then-firsts-g : goal.bounds-firsts-g-then-firsts-g
-bounds-firsts-g-then-firsts-g c = omega (arith, c.wide_byte-g.ensures.1)
-
-pub bounds-firsts-g-in-loop-s : goal.bounds-firsts-g-in-loop-s
-bounds-firsts-g-in-loop-s c = omega (arith, c.wide_byte-g.ensures.1)
-
-pub overflow_cast-names : goal.overflow_cast-names
-overflow_cast-names c = record { fits = omega (arith, c.wide_byte.ensures.1) }

@@ -1,16 +1,9 @@
-use Prim.Native.Nat.{◌-◌}
 use borrow.Author.Rules.{rules}
 use native.Mathlib.Omega.{arith}
 use mathlib.Core.Path.{◌≡◌}
 use lib.ListN.{length}
 use Rattle.sets.proofs.FourLaws.{full_more, missing_here, missing_behind}
 use Rattle.sets.proofs.Four.smallest_missing.Goals as goal
-
-pub loop-w-init : goal.loop-w-init
-loop-w-init c = (omega arith, λ j h. absurd (omega arith))
-
-pub overflow_add-result : goal.overflow_add-result
-overflow_add-result c = omega (arith, c.lowest.ensures.0)
 
 pub returns-then-free-gt0 : goal.returns-then-free-gt0
 returns-then-free-gt0 c =
