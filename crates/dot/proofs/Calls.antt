@@ -1,6 +1,6 @@
 -- What from_dot and to_dot answer in each of their cases.
 -- Assumes nothing.
-use mathlib.Core.Path.{◌≡◌, refl, sym, ap, ◌∙◌}
+use mathlib.Core.Path.{◌≡◌, sym, ap, ◌∙◌}
 use mathlib.Core.Bool.{true, false}
 use mathlib.Core.List.{List, [], ◌∷◌, ◌++◌}
 use mathlib.Core.Option.{none}
@@ -10,7 +10,7 @@ use lib.ListN.{length, drop}
 use borrow.Author.Tests.{eq-eqb, ne_eqb, lt-ltb, le-ltb, lt-leb}
 use Rattle.refusals.specs.declared.Kind.TheVariants.{Drawing, AnswerRoom}
 use Rattle.refusals.specs.declared.Refusal.{Refusal}
-use Rattle.refusals.specs.Refusals.{Outcome, accepted, refused, refusal_outcome, first_of, onward, room_test, laid}
+use Rattle.refusals.specs.Refusals.{accepted, refused, refusal_outcome, first_of, onward, room_test, laid}
 use Rattle.refusals.proofs.Laws.{promise_refused, promise_accepted}
 use Rattle.layout.specs.declared.Profile.{Profile}
 use Rattle.layout.specs.declared.Reading.{Reading}

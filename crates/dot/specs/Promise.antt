@@ -1,7 +1,7 @@
 -- What from_dot and to_dot answer, and what they promise of their answers and of every byte that they are lent to write (document
 -- 02, wish 1).
 -- Assumes nothing.
-use Rattle.std.specs.Prelude.{ℕ, ◌≡◌, Bool, true, not, ◌&&◌, List, [], ◌∷◌, eqb, length}
+use Rattle.std.specs.Prelude.{ℕ, Bool, true, not, ◌&&◌, List, [], ◌∷◌, eqb, length}
 use Rattle.meaning.specs.Filter.{Filter}
 use Rattle.refusals.specs.Refusals.{Outcome, accepted, refused, refusal_outcome, Test, test, first_of, onward, room_test, Lent, lent, Promise}
 use Rattle.layout.specs.declared.Profile.{Profile}

@@ -4,10 +4,8 @@ use Rattle.std.specs.Prelude.{ℕ, suc, ◌+◌, ◌*◌, ◌/◌, ◌%◌, ◌�
 use Rattle.std.proofs.Common.{sym, ap, ◌∙◌, add-zero, add-one, arith, drop-cons, get_or-drop, eqb-true, eq-eqb, ne_eqb, ltb-true, ltb-false, lt-ltb, le-ltb, le-leb, leb-true}
 use Rattle.std.proofs.Math.ListN.{get_or-eq_default}
 use Rattle.std.proofs.lemmas.Bool.{eqb-false}
-use Rattle.meaning.specs.Pick.{pick}
 use Rattle.meaning.specs.Cases.{cases_of, no_both, and_left, and_right}
 use Rattle.text.specs.Decimal.{digits_of, decimal}
-use Rattle.spelling.specs.declared.Number.{Number}
 use Rattle.spelling.specs.Spelling.{digit_of, digit_at, number_to, numeral, number_at}
 use Rattle.spelling.specs.Words.{Stands, stands-inside, same_byte}
 

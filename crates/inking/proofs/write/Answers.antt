@@ -1,12 +1,12 @@
 -- `inking::write` meets its contract: header, colours, edges and filling are the fields of the file, one after another. Assumes nothing.
 use mathlib.Core.Path.{◌≡◌, ap₂, ◌∙◌}
 use mathlib.Core.List.{List, [], ◌∷◌, ◌++◌}
-use Prim.Native.Nat.{ℕ, ◌+◌, ◌≤◌}
+use Prim.Native.Nat.{ℕ, ◌+◌}
 use native.Mathlib.Omega.{arith}
 use borrow.Author.Rules.{rules}
 use lib.ListN.{length, replicate}
 use Rattle.bits.specs.Bits.{Bytes}
-use Rattle.pen.specs.Runs.{total, put_fields, place_of}
+use Rattle.pen.specs.Runs.{total, put_fields}
 use Rattle.layout.proofs.Bounds.{header_high}
 use Rattle.layout.specs.declared.Profile.{Profile}
 use Rattle.layout.specs.Layout.{header_widths, header_bits, edges_begin, file_bits, bytes_for, file_length, fill_bits, edge_widths, length_of, flat}

@@ -2,7 +2,6 @@
 use mathlib.Core.Path.{◌≡◌}
 use Prim.Native.Nat.{◌+◌, ◌*◌, ◌-◌, ◌≤◌}
 use lib.ListN.{length}
-use Rattle.meaning.specs.Filter as meaning
 use Rattle.text.specs.Decimal.{wrote}
 use Rattle.layout.specs.Layout.{edge_bits}
 use Rattle.layout.specs.Contents.{edges_from}

@@ -1,9 +1,7 @@
-use mathlib.Core.Path.{◌≡◌, sym, ◌∙◌}
-use Prim.Native.Nat.{◌-◌, ◌^◌, ◌<◌}
+use mathlib.Core.Path.{sym, ◌∙◌}
+use Prim.Native.Nat.{◌^◌, ◌<◌}
 use native.Mathlib.Omega.{arith}
 use lib.ListN.{length}
-use Rattle.drawing.specs.declared.Statement.TheVariants as statement
-use Rattle.drawing.specs.Reader.{statement_at}
 use Rattle.surveying.proofs.Steps.{countable, state_on, edge_on, step_state, step_edge, closed_is, outside_is, first_of-all}
 use Rattle.surveying.proofs.statements.Goals as goal
 use Rattle.surveying.proofs.statements.Goals.{At-loop-colour}

@@ -2,7 +2,6 @@
 -- edges are tested, and what follows decides how the text is read. Assumes nothing.
 use Prim.Native.Nat.{◌-◌}
 use lib.ListN.{length}
-use Rattle.drawing.specs.declared.Statement.TheVariants as statement
 use Rattle.layout.specs.Layout.{colour_of}
 use Rattle.surveying.proofs.Steps.{SoFar}
 use Rattle.surveying.proofs.statements.Given as goal
