@@ -1,30 +1,30 @@
 -- A reduced file is itself accepted, and never longer than its original. Assumes nothing.
-use Prim.Native.Nat.{ℕ, ◌+◌, ◌*◌, ◌^◌, ◌≤◌, ◌<◌}
+use Prim.Native.Nat.{ℕ, ◌*◌, ◌^◌, ◌≤◌, ◌<◌}
 use mathlib.Core.Path.{◌≡◌, refl, sym, ap, ◌∙◌}
-use mathlib.Core.Bool.{true, ◌&&◌}
-use mathlib.Core.List.{List, [], ◌∷◌}
+use mathlib.Core.Bool.{true}
+use mathlib.Core.List.{List}
 use native.Mathlib.Nat.{mul-le-mul, le_refl, le_trans}
 use native.Mathlib.Omega.{arith}
 use lib.Dec.{ltb}
 use lib.ListN.{length}
 use borrow.Author.Tests.{ltb-true}
 use Rattle.bits.specs.Bits.{Bytes}
-use Rattle.meaning.specs.Search.{tab, at}
+use Rattle.meaning.specs.Search.{at}
 use Rattle.meaning.specs.SearchLaws.{at_tab, length-tab}
 use Rattle.meaning.specs.Cases.{and_left, and_right}
 use Rattle.meaning.specs.Filter.{Filter, states, inside, each, ascending, in_order}
 use Rattle.meaning.specs.Trace.{edge, colour}
 use Rattle.meaning.specs.Classes.{classes}
-use Rattle.meaning.specs.Reduced.{has, name_of, edge', listed, merged, reduce, reduced}
+use Rattle.meaning.specs.Reduced.{has, name_of, edge', merged, reduce, reduced}
 use Rattle.meaning.specs.Listing.{cells_max, listed-length}
 use Rattle.meaning.proofs.Demand.{reduced-in_order, reduced-bound, reduced_edges}
 use Rattle.meaning.proofs.Staying.{reduced-stays}
 use Rattle.layout.specs.declared.Profile.{Profile}
-use Rattle.layout.specs.Layout.{fault_colour, header_bits, edge_bits, edges_begin, file_bits, bytes_for, file_length, length_of, written}
+use Rattle.layout.specs.Layout.{fault_colour, edge_bits, edges_begin, file_bits, bytes_for, file_length, length_of, written}
 use Rattle.layout.specs.Code.{Usable}
 use Rattle.layout.specs.Contents.{filter_in}
 use Rattle.refusals.specs.Refusals.{accepted}
-use Rattle.files.specs.Files.{all_below, numbers_in, check_of}
+use Rattle.files.specs.Files.{numbers_in, check_of}
 use Rattle.files.specs.Tests.{Sound, check_sound, sound_check, Writable, writable_in_order}
 use Rattle.edges.proofs.Tests.{listed_clear}
 use Rattle.files.specs.Written.{at_below, colours_fit, states≤256, length-written, written_sound, read_writable, read_back}

@@ -1,5 +1,5 @@
 -- What the code reduces is the filter in the file: its table, colours and names are the filter's. Assumes nothing.
-use Prim.Native.Nat.{ℕ, ◌*◌, ◌≤◌, ◌<◌}
+use Prim.Native.Nat.{ℕ, ◌≤◌, ◌<◌}
 use mathlib.Core.Path.{◌≡◌, sym, ap, ap₂, ◌∙◌, subst}
 use mathlib.Core.Bool.{Bool, true, false}
 use mathlib.Core.List.{List, [], ◌∷◌}
@@ -26,7 +26,7 @@ use Rattle.layout.specs.declared.Profile.{Profile}
 use Rattle.layout.specs.Code.{Usable}
 use Rattle.layout.specs.declared.Reading.{Reading}
 use Rattle.layout.specs.Layout.{length_of}
-use Rattle.layout.specs.Contents.{labels_in, start_in, filter_in}
+use Rattle.layout.specs.Contents.{filter_in}
 use Rattle.refusals.specs.Refusals.{accepted}
 use Rattle.layout.proofs.Bounds.{states_high, labels_fit}
 use Rattle.files.specs.Tests.{Writable, writable_in_order, writable_write, ReadIs}

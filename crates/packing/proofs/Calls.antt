@@ -30,6 +30,7 @@ module _ (P : Profile) (ok : Usable P) where
     pub whole_edges : length es ≡ 3 * (length es / 3)
     whole_edges = omega (arith, eqb-true (length es % 3) 0 pack_passed.is_whole)
 
+    -- the edges are as many as a third of their bytes
     pub count-listed : length (threes es) ≡ length es / 3
     count-listed = length-threes (length es / 3) es whole_edges
 

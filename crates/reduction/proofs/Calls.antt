@@ -1,19 +1,17 @@
 -- The promise of reduce in each of its cases, and in rooms that hold any file.
 -- Assumes nothing.
 use mathlib.Core.Path.{◌≡◌, refl, sym}
-use mathlib.Core.Bool.{true, false}
 use mathlib.Core.List.{List}
 use Prim.Native.Nat.{ℕ, ◌≤◌, ◌<◌}
-use lib.Dec.{ltb}
 use lib.ListN.{length}
 use native.Mathlib.Omega.{arith}
 use borrow.Author.Tests.{lt-ltb, le-ltb}
 use Rattle.layout.specs.declared.Profile.{Profile}
 use Rattle.refusals.specs.declared.Kind.TheVariants.{AnswerRoom, ClassRoom}
 use Rattle.refusals.specs.declared.Refusal.{Refusal}
-use Rattle.layout.specs.Layout.{large, written}
+use Rattle.layout.specs.Layout.{large}
 use Rattle.layout.specs.Contents.{states_in, filter_in}
-use Rattle.refusals.specs.Refusals.{Outcome, accepted, refused, refusal_outcome, first_of, onward, laid}
+use Rattle.refusals.specs.Refusals.{Outcome, accepted, refused, refusal_outcome, first_of, onward}
 use Rattle.refusals.proofs.Laws.{first_passed, promise_refused, promise_accepted}
 use Rattle.layout.proofs.Bounds.{large_usable, states_high}
 use Rattle.files.specs.Files.{check_of}

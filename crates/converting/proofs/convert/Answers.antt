@@ -1,17 +1,16 @@
 -- `converting::convert` meets its contract: the check's answer decides, then what the other file can hold, then the room; and then the
 -- lists of the file are written. Assumes nothing.
 use mathlib.Core.Path.{◌≡◌, ap, sym, ◌∙◌}
-use mathlib.Core.Bool.{Bool, true}
+use mathlib.Core.Bool.{Bool}
 use mathlib.Core.List.{List}
-use Prim.Native.Nat.{ℕ, ◌*◌, ◌≤◌}
+use Prim.Native.Nat.{ℕ, ◌≤◌}
 use native.Mathlib.Omega.{arith}
 use lib.ListN.{length, take, length-replicate}
 use lib.Seq.{length-take-le}
 use Rattle.layout.specs.declared.Reading.{Reading}
 use Rattle.layout.specs.declared.Profile.{Profile}
-use Rattle.layout.specs.Layout.{flat, length_of}
 use Rattle.layout.specs.Code.{Usable}
-use Rattle.layout.specs.Contents.{colours_in, edges_in, filter_in}
+use Rattle.layout.specs.Contents.{colours_in, filter_in}
 use Rattle.layout.proofs.Bounds.{states_high, count_high}
 use Rattle.checking.specs.declared.Checked.{Checked}
 use Rattle.checking.specs.declared.Checked.TheVariants as checked
@@ -21,7 +20,6 @@ use Rattle.files.specs.Files.{holdable}
 use Rattle.files.specs.Tests.{ReadIs, reading_is}
 use Rattle.loading.specs.Loading.{Coloured}
 use Rattle.loading.proofs.Laws.{colours_taken}
-use Rattle.converting.specs.Code.{Convertible}
 use Rattle.converting.proofs.Calls.{convert_refused, not_held, held_is, length_is, convert_short, convert_laid, few_edges, edges_taken, lists_are, lists_packed}
 use Rattle.converting.proofs.convert.Goals as goal
 
@@ -151,6 +149,7 @@ write-requires c =
     let hues = c.colours_of-hues.ensures in
     let held = sym (tested a.from can.from a.file.now c.requires.1 is hues a.to _ c.holdable-held.ensures) ∙ c.if-not-held.false in
     let long = length_is _ a.to _ _ reads _ _ c.file_bits.ensures.0 c.bytes_for-length.ensures in
+    -- the first bytes of the list are the edges
     let edges = edges_taken _ _ can _ _ reads held _ _ c.edges_begin.result c.edges_begin.ensures.0 c.get_edges.ensures in
     (can.to, lists_packed _ _ can _ _ reads held _ _ (colours_are a.from can.from a.file.now c.requires.1 is hues) edges _ (rw (← long) c.if-room-length.false))
 
@@ -163,6 +162,7 @@ returns c =
     let hues = c.colours_of-hues.ensures in
     let held = sym (tested a.from can.from a.file.now c.requires.1 is hues a.to _ c.holdable-held.ensures) ∙ c.if-not-held.false in
     let long = length_is _ a.to _ _ reads _ _ c.file_bits.ensures.0 c.bytes_for-length.ensures in
+    -- the first bytes of the list are the edges
     let edges = edges_taken _ _ can _ _ reads held _ _ c.edges_begin.result c.edges_begin.ensures.0 c.get_edges.ensures in
     rw (
       c.write.ensures,

@@ -4,19 +4,17 @@ use mathlib.Core.List.{List}
 use Prim.Native.Nat.{ℕ, ◌≤◌}
 use native.Mathlib.Omega.{arith}
 use lib.ListN.{length, take}
-use Rattle.meaning.specs.Search.{at, tab}
+use Rattle.meaning.specs.Search.{at}
 use Rattle.meaning.specs.SearchLaws.{length-tab}
 use Rattle.meaning.specs.Filter.{Filter}
 use Rattle.meaning.specs.Classes.{classes}
-use Rattle.meaning.specs.Reduced.{name_of}
 use Rattle.layout.specs.declared.Profile.{Profile}
 use Rattle.layout.specs.declared.Reading.{Reading}
 use Rattle.layout.specs.Layout.{length_of, written}
 use Rattle.refusals.specs.Refusals.{laid}
-use Rattle.numbering.specs.Names.{new_number}
 use Rattle.table.specs.Table.{Table, table}
 use Rattle.storing.specs.Stored.{stored, Packable}
-use Rattle.merging.specs.Merged.{Gathered, merged_by, Foldable}
+use Rattle.merging.specs.Merged.{merged_by, Foldable}
 use Rattle.merging.proofs.Making.{ordered, take-laid, few_classes, no_edge, order_long, named_low, Ready, numbers_laid, can_store, hues_long, filter_made}
 use Rattle.merging.proofs.merged.Goals as goal
 use Rattle.merging.proofs.merged.Goals.{After-colours_by}

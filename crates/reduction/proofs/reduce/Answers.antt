@@ -3,14 +3,12 @@ use native.Mathlib.Omega.{arith}
 use lib.Dec.{lit≤}
 use Rattle.layout.proofs.Bounds.{large_usable}
 use Rattle.loading.proofs.Laws.{serves}
-use Rattle.layout.specs.Layout.{large}
-use Rattle.layout.specs.Contents.{states_in}
-use mathlib.Core.Path.{◌≡◌}
 use Rattle.reduction.proofs.reduce.Goals as goal
 
 pub states-n-requires : goal.states-n-requires
 states-n-requires c = rw c.large.ensures large_usable
 
+-- in each of these: the states that the file states, by the large widths
 pub reduce_with-requires : goal.reduce_with-requires
 reduce_with-requires c =
     serves _ _ _ _ 16 large_usable (lit≤ tt) c.small_targets-targets.ensures c.small_labels-labels.ensures (omega (arith, rw c.large.ensures at c.states-n.ensures.0, c.if-n-le16.true))

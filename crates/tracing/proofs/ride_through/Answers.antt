@@ -1,4 +1,3 @@
-use Prim.Native.Nat.{◌-◌}
 use native.Mathlib.Omega.{arith}
 use Rattle.tracing.proofs.Laws.{underway_begins, underway_on, underway_less, underway_stops, underway_ends}
 use Rattle.tracing.proofs.ride_through.Goals as goal

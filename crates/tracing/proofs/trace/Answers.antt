@@ -1,9 +1,7 @@
 -- `tracing::trace` meets its contract: whichever table a file's states take, it has a row for each. Assumes nothing.
-use mathlib.Core.Path.{◌≡◌}
 use native.Mathlib.Omega.{arith}
 use lib.Dec.{lit≤}
 use Rattle.layout.specs.Layout.{large}
-use Rattle.layout.specs.Contents.{states_in}
 use Rattle.layout.proofs.Bounds.{large_usable}
 use Rattle.loading.proofs.Laws.{serves}
 use Rattle.tracing.proofs.trace.Goals as goal
@@ -11,6 +9,7 @@ use Rattle.tracing.proofs.trace.Goals as goal
 pub states-n-requires : goal.states-n-requires
 states-n-requires c = rw c.large.ensures large_usable
 
+-- in each of these: the states that the file states, by the large widths
 pub trace_in-requires : goal.trace_in-requires
 trace_in-requires c =
     serves large _ _ _ 16 large_usable (lit≤ tt) c.small_targets-targets.ensures c.small_labels-labels.ensures
