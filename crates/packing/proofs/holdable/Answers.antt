@@ -1,7 +1,5 @@
 -- `packing::holdable` meets its contract. Assumes nothing.
-use mathlib.Core.Path.{◌≡◌}
 use native.Mathlib.Omega.{arith}
-use Prim.Native.Nat.{◌*◌, ◌%◌, ◌^◌}
 use borrow.Author.Tests.{le-leb, lt-leb}
 use Rattle.bits.proofs.Reading.{one_shl}
 use Rattle.files.specs.Files.{holdable}
