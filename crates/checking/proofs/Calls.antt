@@ -15,7 +15,8 @@ use Rattle.layout.proofs.Bounds.{count_high}
 use Rattle.edges.specs.Faults.{first_fault}
 use Rattle.leaving.specs.Leaving.{Passed}
 use Rattle.files.specs.Files.{check_of}
-use Rattle.files.specs.Tests.{HeadIs, ReadIs, reading_is}
+use Rattle.files.specs.Tests.{HeadIs, ReadIs}
+use Rattle.files.proofs.Accepted.{reading_is}
 use Rattle.checking.specs.declared.Checked.{Checked}
 use Rattle.checking.specs.declared.Checked.TheVariants as checked
 use Rattle.checking.specs.Promise.{checked_outcome, CheckPromise}

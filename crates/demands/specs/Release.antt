@@ -26,7 +26,8 @@ use Rattle.layout.specs.Layout.{large, header_bits, bytes_for, length_of, writte
 use Rattle.layout.specs.Contents.{states_in, filter_in}
 use Rattle.layout.proofs.Bounds.{large_usable}
 use Rattle.files.specs.Files.{reading_outcome, check_of}
-use Rattle.files.specs.Tests.{check_sound, reading_is}
+use Rattle.files.specs.Tests.{check_sound}
+use Rattle.files.proofs.Accepted.{reading_is}
 use Rattle.files.specs.Written.{length-filter, read_writable, colours_fit}
 use Rattle.checking.specs.declared.Checked.{Checked}
 use Rattle.checking.specs.declared.Checked.TheVariants as checked

@@ -88,19 +88,6 @@ pub record ReadIs (P : Profile) (s : List ℕ) (r : Reading) : Type 0 where
   pub start_is : r.start ≡ start_in P s
   pub count_is : r.edges ≡ count_in P s
 
-pub reading_is : (P : Profile) (s : List ℕ) (r : Reading) → check_of P s ≡ reading_outcome r → ReadIs P s r
-reading_is P s r h =
-    let q = check_sound P s _ h in
-    let n : numbers_in P s ≡ r.states ∷ r.labels ∷ r.start ∷ r.edges ∷ [] = q.1 in
-    record {
-      sound = q.0;
-      answer = h;
-      states_are = cc;
-      labels_are = cc;
-      start_is = cc;
-      count_is = cc;
-    }
-
 -- ---- a file, before and behind its edges
 
 -- a check is the tests before the edges, and then the first fault of the edges

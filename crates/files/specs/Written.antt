@@ -345,10 +345,6 @@ module _ (P : Profile) (ok : Usable P) (s : List ℕ) (h : Sound P s) where
       (write_read s (replicate z 0) (file_widths P (states_in P s) (count_in P s)) b (bytes-replicate z 0 (omega arith))
       (length_is ∙ sym (length-replicate z 0)) (total_file P (states_in P s) (count_in P s) ∙ ap (λ (k : ℕ). k * 8) (sym length_is)))
 
--- an accepted file holds a filter that is in order
-pub checked_in_order : (P : Profile) → Usable P → (s vs : List ℕ) → check_of P s ≡ accepted vs → in_order (filter_in P s) ≡ true
-checked_in_order P ok s vs h = writable_in_order P (filter_in P s) (read_writable P ok s (check_sound P s vs h).0)
-
 -- ---- wider files, and the longest
 
 -- a file that is at least as wide, and has no fault colour among the narrower one's colours, holds the filter too
@@ -377,11 +373,6 @@ largest-length P F w =
     let colours : P.colour * states F ≤ P.colour * 2 ^ P.states = mul-le-mul (le_refl P.colour) w.states_high in
     let edges : edge_bits P * length F.edges ≤ edge_bits P * (2 ^ P.states * 2 ^ P.labels) = mul-le-mul (le_refl (edge_bits P)) (le_trans w.count_in_lem most) in
     omega (arith, colours, edges)
-
-pub largest_file : (P : Profile) → Usable P → (s vs : List ℕ) → check_of P s ≡ accepted vs → length s ≤ longest P
-largest_file P ok s vs h =
-    let q = (check_sound P s vs h).0 in
-    rw (← length_read P s q) (largest-length P (filter_in P s) (read_writable P ok s q))
 
 -- 45,253 bytes for the large file, 187 for the pocket file
 pub longest_files : (longest large ≡ 45253) × (longest pocket ≡ 187)

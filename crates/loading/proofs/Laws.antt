@@ -40,7 +40,8 @@ use Rattle.edges.proofs.Walks.{begun, walk-begun, walk_clear, walk_next}
 use Rattle.leaving.specs.Leaving.{leaving_in}
 use Rattle.files.specs.Files.{reading_outcome, check_of}
 use Rattle.files.specs.Tests.{HeadIs, edges_read, check_faultless}
-use Rattle.files.specs.Written.{length_colours, length-filter, checked_in_order}
+use Rattle.files.specs.Written.{length_colours, length-filter}
+use Rattle.files.proofs.Accepted.{checked_in_order}
 use Rattle.checking.specs.declared.Checked.{Checked}
 use Rattle.checking.specs.Promise.{checked_outcome}
 use Rattle.sets.proofs.FourLaws.{blank}

@@ -15,7 +15,8 @@ use Rattle.refusals.specs.Refusals.{Outcome, accepted, refused, refusal_outcome,
 use Rattle.refusals.proofs.Laws.{first_passed, promise_refused, promise_accepted}
 use Rattle.layout.proofs.Bounds.{large_usable, states_high}
 use Rattle.files.specs.Files.{check_of}
-use Rattle.files.specs.Written.{largest_file, longest_files}
+use Rattle.files.specs.Written.{longest_files}
+use Rattle.files.proofs.Accepted.{largest_file}
 use Rattle.folding.specs.declared.Counts.{Counts}
 use Rattle.reduction.specs.declared.Reduced.TheVariants as variants
 use Rattle.folding.specs.Folding.{Rooms, counts_of, Folded}

@@ -14,7 +14,8 @@ use Rattle.layout.specs.Layout.{large}
 use Rattle.layout.specs.Contents.{filter_in}
 use Rattle.layout.proofs.Bounds.{large_usable, states_high}
 use Rattle.files.specs.Files.{check_of}
-use Rattle.files.specs.Written.{length-filter, checked_in_order}
+use Rattle.files.specs.Written.{length-filter}
+use Rattle.files.proofs.Accepted.{checked_in_order}
 use Rattle.files.specs.Places.{Small, check_small}
 use Rattle.lines.specs.Text.{four_line, number_lines, reduced_text, or_refusal}
 use Rattle.lines.proofs.Laws.{refusal_most, four_most, states_most}

@@ -17,7 +17,8 @@ use Rattle.checking.specs.declared.Checked.TheVariants as checked
 use Rattle.checking.specs.Promise.{CheckPromise, checked_outcome}
 use Rattle.checking.proofs.Calls.{refused_is}
 use Rattle.files.specs.Files.{holdable}
-use Rattle.files.specs.Tests.{ReadIs, reading_is}
+use Rattle.files.specs.Tests.{ReadIs}
+use Rattle.files.proofs.Accepted.{reading_is}
 use Rattle.loading.specs.Loading.{Coloured}
 use Rattle.loading.proofs.Laws.{colours_taken}
 use Rattle.converting.proofs.Calls.{convert_refused, not_held, held_is, length_is, convert_short, convert_laid, few_edges, edges_taken, lists_are, lists_packed}

@@ -8,7 +8,8 @@ use Rattle.checking.specs.Promise.{checked_outcome}
 use Rattle.drawing.specs.Profile.{labels_of}
 use Rattle.plotting.specs.Plot.{text_of}
 use Rattle.dot.specs.Promise.{drawable}
-use Rattle.files.specs.Tests.{ReadIs, reading_is}
+use Rattle.files.specs.Tests.{ReadIs}
+use Rattle.files.proofs.Accepted.{reading_is}
 use Rattle.plotting.specs.declared.Extent.{Extent}
 use Rattle.dot.proofs.Calls.{draw_refused, other_start, other_labels, can_draw, short_room, drawn-laid}
 use Rattle.dot.proofs.draw.Goals as goal

@@ -11,7 +11,7 @@ use Rattle.meaning.specs.Reduced.{reduce}
 use Rattle.refusals.specs.Refusals.{laid}
 use Rattle.layout.specs.Layout.{written}
 use Rattle.layout.specs.Contents.{filter_in}
-use Rattle.files.specs.Tests.{reading_is}
+use Rattle.files.proofs.Accepted.{reading_is}
 use Rattle.table.specs.Table.{table}
 use Rattle.folding.proofs.Folding.{few_states, start_state, reduce_is, within, filter_is, foldable, list_is, counts_are}
 use Rattle.folding.proofs.fold.Goals as goal

@@ -17,7 +17,8 @@ use Rattle.layout.specs.declared.Profile.{Profile}
 use Rattle.layout.specs.declared.Reading.{Reading}
 use Rattle.layout.specs.Contents.{states_in, labels_in, start_in, filter_in}
 use Rattle.layout.proofs.Bounds.{labels_fit, labels_low, states_high}
-use Rattle.files.specs.Tests.{ReadIs, reading_is}
+use Rattle.files.specs.Tests.{ReadIs}
+use Rattle.files.proofs.Accepted.{reading_is}
 use Rattle.checking.specs.declared.Checked.{Checked}
 use Rattle.checking.specs.declared.Checked.TheVariants as checked
 use Rattle.checking.specs.Promise.{checked_outcome}
