@@ -4,18 +4,11 @@
 ghost use Rattle.std.specs.Prelude.{◌≡◌, ◌+◌, ◌*◌, ◌%◌, ◌^◌, ◌≤◌, ◌<◌, get_or, set};
 ghost use Rattle.bits.specs.Bits.{field, put_field, splice};
 
-// The byte as a wider number.
-fn wide(x: u8) -> u64
-    ensures { (result ≡ x) × (result < 256) }
-{
-    x as u64
-}
-
 // The byte at i, or 0 past the end.
 fn byte_at(s: &[u8], i: usize) -> u64
     ensures { (result ≡ get_or s.now i 0) × (result < 256) }
 {
-    if i < s.len() { wide(s[i]) } else { 0 }
+    if i < s.len() { u64::from(s[i]) } else { 0 }
 }
 
 // The four bytes from q on as one number; bytes past the end count as 0.
@@ -35,7 +28,10 @@ fn window(s: &[u8], q: usize) -> u64
     ensures { (result ≡ field s.now (q * 8) 32) × (result < 2 ^ 32) }
 {
     if q + 4 <= s.len() {
-        wide(s[q]) * 16777216 + wide(s[q + 1]) * 65536 + wide(s[q + 2]) * 256 + wide(s[q + 3])
+        u64::from(s[q]) * 16777216
+            + u64::from(s[q + 1]) * 65536
+            + u64::from(s[q + 2]) * 256
+            + u64::from(s[q + 3])
     } else {
         end_window(s, q)
     }
@@ -57,12 +53,15 @@ fn long_window(s: &[u8], q: usize) -> u64
     ensures { (result ≡ field s.now (q * 8) 64) × (result < 2 ^ 64) }
 {
     if q + 8 <= s.len() {
-        (wide(s[q]) * 16777216 + wide(s[q + 1]) * 65536 + wide(s[q + 2]) * 256 + wide(s[q + 3]))
+        (u64::from(s[q]) * 16777216
+            + u64::from(s[q + 1]) * 65536
+            + u64::from(s[q + 2]) * 256
+            + u64::from(s[q + 3]))
             * 4294967296
-            + (wide(s[q + 4]) * 16777216
-                + wide(s[q + 5]) * 65536
-                + wide(s[q + 6]) * 256
-                + wide(s[q + 7]))
+            + (u64::from(s[q + 4]) * 16777216
+                + u64::from(s[q + 5]) * 65536
+                + u64::from(s[q + 6]) * 256
+                + u64::from(s[q + 7]))
     } else {
         window(s, q) * 4294967296 + window(s, q + 4)
     }

@@ -1,5 +1,5 @@
 -- The labels of a pair that are tried so far, and the labels of a table. Assumes nothing.
-use Prim.Native.Nat.{ℕ, ◌*◌, ◌+◌, ◌≤◌, ◌<◌}
+use Prim.Native.Nat.{ℕ, ◌≤◌, ◌<◌}
 use mathlib.Core.Path.{◌≡◌, refl, sym, ap, ◌∙◌, fun_ext}
 use mathlib.Core.Bool.{Bool, true, false, not, ◌&&◌}
 use mathlib.Core.List.{List}
@@ -14,7 +14,7 @@ use Rattle.meaning.specs.SearchLaws.{any_intro, any_elim, any_none}
 use Rattle.meaning.specs.Reduced.{apart, conflict}
 use Rattle.sets.specs.Sets.{holds, Lowest}
 use Rattle.sets.proofs.Laws.{holds_none}
-use Rattle.table.specs.Table.{Table, look}
+use Rattle.table.specs.Table.{Table, row, look}
 use Rattle.table.proofs.Laws.{look_some, look_none}
 use Rattle.conflicts.specs.Conflicts.{clash}
 
@@ -37,17 +37,17 @@ apart_none P (some k) = refl
 module _ (T : Table) (P : List ℕ) (a b : ℕ) where
   -- the target of a state at a label
   abbrev target : ℕ → ℕ → ℕ
-  target s y = at T.targets (s * 64 + y)
+  target s y = at (row T s).targets y
 
   -- a label that is not in both sets parts nothing
-  unshared : (y : ℕ) → holds (at T.labels a) y && holds (at T.labels b) y ≡ false
+  unshared : (y : ℕ) → holds (row T a).labels y && holds (row T b).labels y ≡ false
       → apart P (look T a y) (look T b y) ≡ false
   unfolding apart
-  unshared y e = cases_of (holds (at T.labels a) y)
+  unshared y e = cases_of (holds (row T a).labels y)
       (λ q. ap (apart P (look T a y)) (look_none T b y (sym (rw q) ∙ e)) ∙ apart_none P (look T a y))
       (λ q. rw (look_none T a y q))
 
-  both : (y : ℕ) → y < 64 → holds (at T.labels a) y ≡ true → holds (at T.labels b) y ≡ true
+  both : (y : ℕ) → y < 64 → holds (row T a).labels y ≡ true → holds (row T b).labels y ≡ true
       → apart P (look T a y) (look T b y) ≡ not (eqb (at P (target a y)) (at P (target b y)))
   unfolding apart
   both y l p q = rw (look_some T a y l p, look_some T b y l q)
@@ -56,34 +56,29 @@ module _ (T : Table) (P : List ℕ) (a b : ℕ) where
 
   -- `rest` is still to be tried: the two states have each of its labels, and no other label parts them
   pub record Calm (rest : ℕ) : Type 0 where
-    pub left : (y : ℕ) → holds rest y ≡ true → holds (at T.labels a) y ≡ true
-    pub right : (y : ℕ) → holds rest y ≡ true → holds (at T.labels b) y ≡ true
+    pub left : (y : ℕ) → holds rest y ≡ true → holds (row T a).labels y ≡ true
+    pub right : (y : ℕ) → holds rest y ≡ true → holds (row T b).labels y ≡ true
     pub tried : (y : ℕ) → holds rest y ≡ false → apart P (look T a y) (look T b y) ≡ false
 
-  pub calm_begun : (rest : ℕ) → ((y : ℕ) → holds rest y ≡ (holds (at T.labels a) y && holds (at T.labels b) y)) → Calm rest
+  pub calm_begun : (rest : ℕ) → ((y : ℕ) → holds rest y ≡ (holds (row T a).labels y && holds (row T b).labels y)) → Calm rest
   calm_begun rest is = record {
-    left = λ y q. and_left _ (holds (at T.labels b) y) (sym (is y) ∙ q);
-    right = λ y q. and_right (holds (at T.labels a) y) _ (sym (is y) ∙ q);
+    left = λ y q. and_left _ (holds (row T b).labels y) (sym (is y) ∙ q);
+    right = λ y q. and_right (holds (row T a).labels y) _ (sym (is y) ∙ q);
     tried = λ y q. unshared y (sym (is y) ∙ q);
   }
 
   -- label k is tried, which leads the two states to u and v
-  module _ (rest k u v : ℕ) (calm : Calm rest) (next : (k < 64) × Lowest rest k) (to-u : u ≡ target a k)
-      (to-v : v ≡ target b k) where
+  module _ (rest k u v : ℕ) (calm : Calm rest) (small : k < 64) (lowest : Lowest rest k) (to-u : u ≡ target a k) (to-v : v ≡ target b k) where
     here : apart P (look T a k) (look T b k) ≡ not (eqb (at P u) (at P v))
-    here = let there = next.1.there in rw (to-u, to-v) (both k next.0 (calm.left k there) (calm.right k there))
+    here = let there = lowest.there in rw (to-u, to-v) (both k small (calm.left k there) (calm.right k there))
 
-    pub calm_more : (rest' : ℕ) → ((k y : ℕ) → Lowest rest k → holds rest' y ≡ (holds rest y && not (eqb k y))) → at P u ≡ at P v
-        → Calm rest'
-    calm_more rest' without same = record {
+    pub calm_more : (rest' : ℕ) → ((y : ℕ) → holds rest' y ≡ (holds rest y && not (eqb k y))) → at P u ≡ at P v → Calm rest'
+    calm_more rest' is same = record {
       left = λ y q. calm.left y (kept y q);
       right = λ y q. calm.right y (kept y q);
       tried = λ y q. go y q (ℕ_discrete k y);
     }
       where
-        is : (y : ℕ) → holds rest' y ≡ (holds rest y && not (eqb k y))
-        is y = without k y next.1
-
         kept : (y : ℕ) → holds rest' y ≡ true → holds rest y ≡ true
         kept y q = and_left _ (not (eqb k y)) (sym (is y) ∙ q)
 
@@ -94,7 +89,7 @@ module _ (T : Table) (P : List ℕ) (a b : ℕ) where
 
     pub calm_broken : (at P u ≡ at P v → ⊥) → clash T P a b ≡ true
     unfolding conflict
-    calm_broken differ = any_intro (λ y. apart P (look T a y) (look T b y)) 64 k next.0 (here ∙ rw (ne_eqb _ _ differ))
+    calm_broken differ = any_intro (λ y. apart P (look T a y) (look T b y)) 64 k small (here ∙ rw (ne_eqb _ _ differ))
 
   pub calm_all : (rest : ℕ) → Calm rest → rest ≡ 0 → clash T P a b ≡ false
   unfolding conflict

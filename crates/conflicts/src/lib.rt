@@ -2,22 +2,21 @@
 #![tactic(auto)]
 
 ghost use Rattle.std.specs.Prelude.{◌≡◌, ◌+◌, length};
-ghost use Rattle.table.specs.Table.{table, Rows};
+ghost use Rattle.table.specs.Table.{Rows};
 ghost use Rattle.conflicts.specs.Conflicts.{clash};
 
+use table::Row;
+
 // Whether a and b conflict. A label that only one of them has is no conflict.
-pub fn conflict(targets: &[u8], labels: &[u64], names: &[u16; 256], a: usize, b: usize) -> bool
-    requires { Rows (table targets.now labels.now) (a + 1) × Rows (table targets.now labels.now) (b + 1)
+pub fn conflict(rows: &[Row], names: &[u16; 256], a: usize, b: usize) -> bool
+    requires { Rows rows.now (a + 1) × Rows rows.now (b + 1)
         × (length names.now ≡ 256) }
-    ensures { result ≡ clash (table targets.now labels.now) names.now a b }
+    ensures { result ≡ clash rows.now names.now a b }
 {
-    let mut rest = sets::shared(labels[a], labels[b]);
-    while 0 < rest {
-        let y = sets::lowest(rest);
-        if names[table::target(targets, a, y)] != names[table::target(targets, b, y)] {
+    for y in sets::each(sets::shared(rows[a].labels, rows[b].labels)) {
+        if names[table::target(rows, a, y)] != names[table::target(rows, b, y)] {
             return true;
         }
-        rest = sets::without_lowest(rest);
     }
     false
 }

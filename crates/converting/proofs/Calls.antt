@@ -4,54 +4,33 @@ use mathlib.Core.Path.{◌≡◌, sym, ap, ◌∙◌}
 use mathlib.Core.Bool.{true, false}
 use mathlib.Core.List.{List, [], ◌∷◌, ◌++◌}
 use Prim.Native.Nat.{ℕ, ◌*◌, ◌≤◌, ◌<◌}
-use native.Mathlib.Nat.{mul-le-mul}
 use native.Mathlib.Omega.{arith}
-use lib.Dec.{lit≤}
 use lib.ListN.{length, take, drop}
 use borrow.Author.Tests.{lt-ltb, le-ltb}
-use Rattle.meaning.specs.Cases.{impossible}
 use Rattle.meaning.specs.Filter.{Filter, states}
 use Rattle.refusals.specs.declared.Kind.TheVariants.{AnswerRoom, Pocket}
 use Rattle.refusals.specs.declared.Refusal.{Refusal}
 use Rattle.refusals.specs.Refusals.{accepted, refusal_outcome, first_of, room_test, laid}
 use Rattle.refusals.proofs.Laws.{promise_refused, promise_accepted, laid_front}
-use Rattle.layout.specs.declared.Profile.{Profile}
+use Rattle.layout.specs.declared.profile.Profile.{Profile}
 use Rattle.layout.specs.declared.Reading.{Reading}
-use Rattle.layout.specs.Layout.{large, pocket, edges_begin, file_bits, bytes_for, file_length, flat, from_lists, length_of}
+use Rattle.layout.specs.Layout.{edges_begin, file_bits, bytes_for, file_length, flat, from_lists, length_of}
 use Rattle.layout.specs.Contents.{colours_in, edges_from, edges_in, filter_in}
-use Rattle.layout.proofs.Bounds.{large_usable, pocket_usable}
 use Rattle.files.specs.Files.{holdable, check_of}
 use Rattle.files.specs.Tests.{ReadIs, Writable, held_writable}
 use Rattle.files.specs.Written.{length-filter, length-filter_edges, length-flat_edges, read_writable, lists_filter}
-use Rattle.packing.specs.declared.Packed.TheVariants as packed
+use Rattle.std.specs.Prelude.{Ok, Err}
 use Rattle.packing.specs.Promise.{pack_of}
 use Rattle.packing.proofs.Calls.{pack_accepts}
 use Rattle.unpacking.proofs.Calls.{edges_laid}
 use Rattle.converting.specs.Promise.{convert_of, converted, ConvertPromise}
 use Rattle.converting.specs.Code.{Convertible}
-
--- ---- the two conversions
-
-pub to_large : Convertible pocket large
-to_large = record {
-  from = pocket_usable;
-  to = large_usable;
-  few = λ n m a b c d. mul-le-mul {n₂ = 16} {m₂ = 8} a c;
-  above = λ c e. let is : 63 ≡ c = cc in rw (← is) (lit≤ tt);
-}
-
-pub to_pocket : Convertible large pocket
-to_pocket = record {
-  from = large_usable;
-  to = pocket_usable;
-  few = λ n m a b c d. mul-le-mul {n₂ = 16} {m₂ = 8} b d;
-  above = λ c e. impossible cc;
-}
+pub use Rattle.converting.specs.Code.{to_large, to_pocket}
 
 -- ---- refusals
 
 -- a refused file ends the call with that same refusal
-pub convert_refused : (From To : Profile) (file room : List ℕ) (why : Refusal) → check_of From file ≡ refusal_outcome why → ConvertPromise From To file room (packed.Refused why) room
+pub convert_refused : (From To : Profile) (file room : List ℕ) (why : Refusal) → check_of From file ≡ refusal_outcome why → ConvertPromise From To file room (Err why) room
 unfolding convert_of
 convert_refused From To file room why h = promise_refused _ why _ (rw h)
 
@@ -59,7 +38,7 @@ module _ (From To : Profile) (file : List ℕ) (r : Reading) (is : ReadIs From f
   abbrev F : Filter
   F = filter_in From file
 
-  pub not_held : (room : List ℕ) → holdable To F.colours F.labels ≡ false → ConvertPromise From To file room (packed.Refused (record { kind = Pocket; place = 0 })) room
+  pub not_held : (room : List ℕ) → holdable To F.colours F.labels ≡ false → ConvertPromise From To file room (Err (record { kind = Pocket; place = 0 })) room
   unfolding convert_of
   not_held room h = promise_refused _ (record { kind = Pocket; place = 0 }) _ (rw (is.answer, h))
 
@@ -78,12 +57,12 @@ module _ (From To : Profile) (file : List ℕ) (r : Reading) (is : ReadIs From f
   length_is bits bytes b l = l ∙ rw (b, length-filter From file, length-filter_edges From file, is.states_are, is.count_is)
 
   pub convert_short : (room : List ℕ) (n : ℕ) → n ≡ length_of To F → holdable To F.colours F.labels ≡ true → length room < n →
-      ConvertPromise From To file room (packed.Refused (record { kind = AnswerRoom; place = 0 })) room
+      ConvertPromise From To file room (Err (record { kind = AnswerRoom; place = 0 })) room
   convert_short room n long h l =
       promise_refused _ (record { kind = AnswerRoom; place = 0 }) _ (convert_held (length room) h ∙ rw (lt-ltb (length room) (length_of To F) (omega (arith, long))))
 
   pub convert_laid : (room : List ℕ) (n : ℕ) → n ≡ length_of To F → holdable To F.colours F.labels ≡ true → n ≤ length room →
-      ConvertPromise From To file room (packed.Accepted n) (laid (converted From To file) room)
+      ConvertPromise From To file room (Ok n) (laid (converted From To file) room)
   convert_laid room n long h l =
       promise_accepted _ _ _ (convert_held (length room) h ∙ rw (le-ltb (length room) (length_of To F) (omega (arith, long))) (ap (λ (k : ℕ). accepted (k ∷ [])) (sym long)))
 
@@ -92,12 +71,12 @@ module _ (From To : Profile) (file : List ℕ) (r : Reading) (is : ReadIs From f
 module _ (From To : Profile) (ok : Convertible From To) (file : List ℕ) (r : Reading) (is : ReadIs From file r)
     (h : holdable To (filter_in From file).colours (filter_in From file).labels ≡ true) where
   pub writable_there : Writable To (filter_in From file)
-  writable_there = held_writable From To (filter_in From file) ok.above (read_writable From ok.from file is.sound) h
+  writable_there = held_writable From To (filter_in From file) ok.above (read_writable From From.usable file is.sound) h
 
   -- the code has room for the edges
   pub few_edges : r.edges ≤ 128
   few_edges =
-      let w = read_writable From ok.from file is.sound in
+      let w = read_writable From From.usable file is.sound in
       let k = writable_there in
       let most = ok.few (states (filter_in From file)) (filter_in From file).labels w.states_high k.states_high w.labels_high k.labels_high in
       omega (arith, w.count_in_lem, most, length-filter_edges From file, is.count_is)

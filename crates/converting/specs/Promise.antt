@@ -4,12 +4,11 @@
 use Rattle.std.specs.Prelude.{ℕ, not, List, [], ◌∷◌, length}
 use Rattle.meaning.specs.Filter.{Filter}
 use Rattle.refusals.specs.Refusals.{Outcome, accepted, Test, test, first_of, onward, room_test, Lent, lent, Promise}
-use Rattle.layout.specs.declared.Profile.{Profile}
+use Rattle.layout.specs.declared.profile.Profile.{Profile}
 use Rattle.layout.specs.Layout.{length_of, written}
 use Rattle.layout.specs.Contents.{filter_in}
 use Rattle.files.specs.Files.{holdable, check_of}
-use Rattle.packing.specs.declared.Packed.{Packed}
-use Rattle.packing.specs.Promise.{packed_outcome}
+use Rattle.packing.specs.Promise.{Packed, packed_outcome}
 
 -- 16: the other file cannot hold the filter; where that is a pocket file, n is above 16, m above 8 or a colour above 15. 10: the room is
 -- shorter than the other file.

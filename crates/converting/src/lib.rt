@@ -1,39 +1,46 @@
 // A filter file turned into the file of the other profile.
 #![tactic(auto)]
 
-ghost use Rattle.layout.specs.Layout.{large, pocket};
-ghost use Rattle.checking.specs.Promise.{CheckPromise};
 ghost use Rattle.converting.specs.Promise.{ConvertPromise};
-ghost use Rattle.converting.specs.Code.{Convertible};
+ghost use Rattle.converting.specs.Code.{Convertible, to_large, to_pocket};
 
-use checking::Checked;
-use layout::Profile;
-use packing::Packed;
-use refusals::Kind;
+use layout::{Format, Large, Pocket, Profile};
+use refusals::{Kind, Refusal};
 
-// Writes the large file of a pocket file's filter, and answers its length.
-pub fn to_large(file: &[u8], room: &mut [u8]) -> Packed
-    ensures { ConvertPromise pocket large file.now room.old result room.new }
-{
-    let checked = checking::pocket_check(file);
-    convert(layout::pocket(), layout::large(), checked, file, room)
+// A kind of file that files of another kind are turned into.
+pub trait Target: Format {
+    type From: Format;
+
+    ghost convertible: { Convertible Self.From.profile Self.profile };
 }
 
-// Writes the pocket file of a large file's filter, and answers its length.
-pub fn to_pocket(file: &[u8], room: &mut [u8]) -> Packed
-    ensures { ConvertPromise large pocket file.now room.old result room.new }
-{
-    let checked = checking::check(file);
-    convert(layout::large(), layout::pocket(), checked, file, room)
+impl Target for Large {
+    type From = Pocket;
+
+    ghost convertible = { to_large };
 }
 
-// The same for any two profiles, of a file that was checked. A filter that both can hold has at most 128 edges.
-fn convert(from: Profile, to: Profile, checked: Checked, file: &[u8], room: &mut [u8]) -> Packed
-    requires { Convertible from to × CheckPromise from file.now checked }
+impl Target for Pocket {
+    type From = Large;
+
+    ghost convertible = { to_pocket };
+}
+
+// Writes the file of the other kind of a file's filter, and answers its length.
+pub fn to<T: Target>(file: &[u8], room: &mut [u8]) -> Result<usize, Refusal>
+    ensures { ConvertPromise T.From.profile T.profile file.now room.old result room.new }
+{
+    convert(<T::From as Format>::profile(), T::profile(), file, room)
+}
+
+// The same for any two profiles. A filter that both can hold has at most 128 edges.
+fn convert(from: Profile, to: Profile, file: &[u8], room: &mut [u8]) -> Result<usize, Refusal>
+    requires { Convertible from to }
     ensures { ConvertPromise from to file.now room.old result room.new }
 {
-    let Checked::Accepted(r) = checked else {
-        return Packed::Refused(checking::refusal(checked));
+    let checked = checking::check_as(from, file);
+    let Ok(r) = checked else {
+        return Err(checked.unwrap_err());
     };
     let n = r.states;
     let e = r.edges;
@@ -42,13 +49,13 @@ fn convert(from: Profile, to: Profile, checked: Checked, file: &[u8], room: &mut
     let held = packing::holdable(to, colours, r.labels);
     let length = layout::bytes_for(layout::file_bits(to, n, e));
     if !held {
-        return Packed::Refused(refusals::plain(Kind::Pocket));
+        return Err(Kind::Pocket.into());
     }
     if room.len() < length {
-        return Packed::Refused(refusals::plain(Kind::AnswerRoom));
+        return Err(Kind::AnswerRoom.into());
     }
     let mut list = [0; 384];
     unpacking::get_edges(from, file, layout::edges_begin(from, n), e, &mut list);
     packing::write(to, colours, &list[..3 * e], r.labels, r.start, room);
-    Packed::Accepted(length)
+    Ok(length)
 }

@@ -14,7 +14,7 @@ use Rattle.meaning.specs.Search.{count}
 use Rattle.meaning.specs.Reduced.{live, reduce, merged, reduced, class_list, distinct}
 use Rattle.meaning.proofs.Demand.{reduced-bound, reduced_traces}
 use Rattle.meaning.proofs.Dropped.{reached_part, reduced-reached, part_rides}
-use Rattle.layout.specs.declared.Profile.{Profile}
+use Rattle.layout.specs.declared.profile.Profile.{Profile}
 use Rattle.layout.specs.Code.{Usable}
 use Rattle.layout.specs.Layout.{length_of, written}
 use Rattle.layout.specs.Contents.{labels_in, filter_in}
@@ -33,7 +33,8 @@ use Rattle.tracing.specs.Promise.{TracePromise}
 use Rattle.tracing.proofs.Calls.{trace_accepted, ride_one, rode_few}
 use Rattle.tracing.proofs.Unique.{traced_one}
 use Rattle.folding.specs.declared.Counts.{Counts}
-use Rattle.reduction.specs.declared.Reduced.TheVariants as answers
+use Rattle.std.specs.Prelude.{Result, Ok}
+use Rattle.refusals.specs.declared.Refusal.{Refusal}
 use Rattle.folding.specs.Folding.{Rooms, counts_of}
 use Rattle.reduction.specs.Reducing.{reduce_tests, reduce_of}
 use Rattle.reduction.specs.Promise.{ReducePromise}
@@ -118,7 +119,7 @@ record AllTraced (P : Profile) (file ys room room' : List ℕ) : Type 0 where
   traces : Traces P file ys
   shows : room' ≡ laid (Shows P file ys) room
 
-all-traced : (P : Profile) (file ys room room' : List ℕ) → TracePromise P file ys room traced.All room' → AllTraced P file ys room room'
+all-traced : (P : Profile) (file ys room room' : List ℕ) → TracePromise P file ys room (Ok traced.All) room' → AllTraced P file ys room room'
 all-traced P file ys room room' p =
     let rode = trace_accepted P file ys (length room) _ (sym p.answer) in
     record {
@@ -139,7 +140,7 @@ pub record Answered (P : Profile) (file : List ℕ) (found left : Rooms) (c : Co
   pub room : left.answer ≡ laid (reduced_file P file) found.answer
   pub list : left.classes ≡ laid (class_list (filter_in P file)) found.classes
 
-pub answered : (P : Profile) (file : List ℕ) (found left : Rooms) (c : Counts) → ReducePromise P file found (answers.Accepted c) left → Answered P file found left c
+pub answered : (P : Profile) (file : List ℕ) (found left : Rooms) (c : Counts) → ReducePromise P file found (Ok c) left → Answered P file found left c
 unfolding reduce_of counts_of
 answered P file found left c p =
     let a = onward_accepted (check_of P file) _ _ (sym p.answer) in
@@ -171,11 +172,11 @@ labels_kept P s = refl
 -- If reduce answers with a file and trace of the original answers *traced*, then trace of the first `length` bytes of the
 -- answer room answers *traced* too, in any room that is long enough, and the two rooms begin with the same colours.
 pub reduce_then_trace : (P : Profile) → Usable P → (file : List ℕ) (found left : Rooms) (c : Counts) → Bytes file →
-    ReducePromise P file found (answers.Accepted c) left →
-    (ys room room' : List ℕ) → TracePromise P file ys room traced.All room' →
-    (r : Traced) (other other' : List ℕ) → length ys < length other →
+    ReducePromise P file found (Ok c) left →
+    (ys room room' : List ℕ) → TracePromise P file ys room (Ok traced.All) room' →
+    (r : Result Traced Refusal) (other other' : List ℕ) → length ys < length other →
     TracePromise P (take c.length left.answer) ys other r other' →
-    (r ≡ traced.All) × (room' ≡ laid (Shows P file ys) room) × (other' ≡ laid (Shows P file ys) other)
+    (r ≡ Ok traced.All) × (room' ≡ laid (Shows P file ys) room) × (other' ≡ laid (Shows P file ys) other)
 unfolding trace_of
 reduce_then_trace P usable file found left c bytes hr ys room room' ht r other other' long h =
     let f = answered P file found left c hr in
@@ -190,7 +191,7 @@ reduce_then_trace P usable file found left c bytes hr ys room room' ht r other o
     let answer_is : trace_of P (reduced_file P file) ys (length other) ≡ ride_outcome none =
     rw (reduced_file_accepted P usable file bytes us accepts, few, roomy, labels, t.labels_in, kept.0) in
     let p : TracePromise P (reduced_file P file) ys other r other' = subst (λ (s : List ℕ). TracePromise P s ys other r other') is h in (
-      traced_one r traced.All (p.answer ∙ answer_is),
+      traced_one r (Ok traced.All) (p.answer ∙ answer_is),
       t.shows,
       cc (promise_laid p answer_is) ∙ ap (λ (cs : List ℕ). laid cs other) kept.1,
     )

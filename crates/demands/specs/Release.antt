@@ -19,7 +19,7 @@ use Rattle.meaning.proofs.Dropped.{list_length, list_led, list_not_led}
 use Rattle.meaning.proofs.Leftovers.{AsReached, leftovers_idle}
 use Rattle.again.specs.Again.{reduced_again}
 use Rattle.refusals.specs.Refusals.{Outcome, accepted, refused, refusal_outcome, laid}
-use Rattle.layout.specs.declared.Profile.{Profile}
+use Rattle.layout.specs.declared.profile.Profile.{Profile}
 use Rattle.layout.specs.declared.Reading.{Reading}
 use Rattle.layout.specs.Code.{Usable}
 use Rattle.layout.specs.Layout.{large, header_bits, bytes_for, length_of, written}
@@ -29,12 +29,11 @@ use Rattle.files.specs.Files.{reading_outcome, check_of}
 use Rattle.files.specs.Tests.{check_sound}
 use Rattle.files.proofs.Accepted.{reading_is}
 use Rattle.files.specs.Written.{length-filter, read_writable, colours_fit}
-use Rattle.checking.specs.declared.Checked.{Checked}
-use Rattle.checking.specs.declared.Checked.TheVariants as checked
+use Rattle.checking.specs.Promise.{Checked}
+use Rattle.std.specs.Prelude.{Ok, Err}
 use Rattle.checking.specs.Promise.{CheckPromise}
 use Rattle.folding.specs.declared.Counts.{Counts}
 use Rattle.folding.specs.Folding.{Rooms, counts_of}
-use Rattle.reduction.specs.declared.Reduced.TheVariants as answers
 use Rattle.reduction.specs.Promise.{ReducePromise}
 use Rattle.shrunk.specs.Shrunk.{shrink_bytes}
 use Rattle.demands.specs.Demand3.{reduced_file, reached_states, few, ok, holds, reduced_file-holds, reduced_file_accepted, reduced_file-bound, answered, answer_is}
@@ -42,9 +41,9 @@ use Rattle.demands.specs.Demand3.{reduced_file, reached_states, few, ok, holds, 
 -- ---- of an answer that meets reduce's promise
 
 module _ (P : Profile) (usable : Usable P) (file : List ℕ) (bytes : Bytes file) (found left : Rooms) (c : Counts)
-    (kept : ReducePromise P file found (answers.Accepted c) left) where
+    (kept : ReducePromise P file found (Ok c) left) where
   -- rounds + colours ≤ states ≤ reached states ≤ n, with the n that check answers
-  pub counts_bound : (r : Reading) → CheckPromise P file (checked.Accepted r)
+  pub counts_bound : (r : Reading) → CheckPromise P file (Ok r)
       → (c.rounds + c.colours ≤ c.states) × (c.states ≤ reached_states P file) × (reached_states P file ≤ r.states)
   counts_bound r h =
       let f = answered P file found left c kept in
@@ -56,13 +55,13 @@ module _ (P : Profile) (usable : Usable P) (file : List ℕ) (bytes : Bytes file
       )
 
   -- check of the bytes that were written accepts, and answers with the count of states
-  pub written_checks : (k : Checked) → CheckPromise P (take c.length left.answer) k → (r : Reading) × (k ≡ checked.Accepted r) × (r.states ≡ c.states)
-  written_checks (checked.Accepted r) h =
+  pub written_checks : (k : Checked) → CheckPromise P (take c.length left.answer) k → (r : Reading) × (k ≡ Ok r) × (r.states ≡ c.states)
+  written_checks (Ok r) h =
       let f = answered P file found left c kept in
       let is = answer_is P usable file found left c bytes f in
       let n = (reading_is P (reduced_file P file) r (ap (check_of P) (sym is) ∙ sym h)).states_are in
       (r, refl, n ∙ (holds P usable file bytes f.checks.0 f.checks.1).states_are ∙ sym f.states_are)
-  written_checks (checked.Refused why) h =
+  written_checks (Err why) h =
       let f = answered P file found left c kept in
       let accepts = reduced_file_accepted P usable file bytes f.checks.0 f.checks.1 in
       let e : refusal_outcome why ≡ accepted _ = h ∙ ap (check_of P) (answer_is P usable file found left c bytes f) ∙ accepts in

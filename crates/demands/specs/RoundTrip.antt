@@ -4,9 +4,9 @@
 use Rattle.std.specs.Prelude.{◌≡◌, List, [], ◌∷◌, ℕ, ◌*◌, ◌/◌, ◌%◌, ◌≤◌, eqb, length, take}
 use Rattle.std.proofs.Common.{sym, ap, ◌∙◌, arith}
 use Rattle.bits.specs.Bits.{Bytes}
-use Rattle.layout.specs.declared.Profile.{Profile}
-use Rattle.unpacking.specs.declared.Unpacked.{Unpacked}
-use Rattle.packing.specs.declared.Packed.{Packed}
+use Rattle.layout.specs.declared.profile.Profile.{Profile}
+use Rattle.unpacking.specs.Promise.{Unpacked}
+use Rattle.packing.specs.Promise.{Packed}
 use Rattle.layout.specs.Layout.{flat, written, from_lists}
 use Rattle.layout.specs.Code.{Usable}
 use Rattle.layout.specs.Contents.{states_in, labels_in, start_in, count_in, colours_in, edges_in, filter_in}

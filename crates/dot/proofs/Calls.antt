@@ -10,19 +10,19 @@ use lib.ListN.{length, drop}
 use borrow.Author.Tests.{eq-eqb, ne_eqb, lt-ltb, le-ltb, lt-leb}
 use Rattle.refusals.specs.declared.Kind.TheVariants.{Drawing, AnswerRoom}
 use Rattle.refusals.specs.declared.Refusal.{Refusal}
-use Rattle.refusals.specs.Refusals.{accepted, refused, refusal_outcome, first_of, onward, room_test, laid}
+use Rattle.refusals.specs.Refusals.{accepted, refused, refusal_outcome, first_of, room_test, laid}
 use Rattle.refusals.proofs.Laws.{promise_refused, promise_accepted}
-use Rattle.layout.specs.declared.Profile.{Profile}
+use Rattle.layout.specs.declared.profile.Profile.{Profile}
 use Rattle.layout.specs.declared.Reading.{Reading}
-use Rattle.layout.specs.Layout.{fault_colour, file_length, length_of, written}
+use Rattle.layout.specs.Layout.{fault_colour, file_length, length_of}
 use Rattle.layout.specs.Contents.{start_in, labels_in, edges_in, filter_in}
 use Rattle.edges.specs.Faults.{listed_from, or_else, first_fault, first_leaving, edges_then}
 use Rattle.edges.proofs.Leaving.{then_then}
 use Rattle.files.specs.Files.{holdable, write_tests, write_of}
 use Rattle.files.specs.Tests.{ReadIs, held, Written, write_written}
-use Rattle.checking.specs.declared.Checked.{Checked}
-use Rattle.checking.specs.declared.Checked.TheVariants as checked
-use Rattle.checking.specs.Promise.{checked_outcome, CheckPromise}
+use Rattle.checking.specs.Promise.{Checked}
+use Rattle.std.specs.Prelude.{Ok, Err}
+use Rattle.checking.specs.Promise.{CheckPromise}
 use Rattle.text.specs.Decimal.{wrote}
 use Rattle.drawing.specs.Profile.{labels_of}
 use Rattle.drawing.specs.Reader.{outside, colours_of, edges_of, read_of}
@@ -31,9 +31,8 @@ use Rattle.surveying.specs.Surveys.{Known}
 use Rattle.plotting.specs.Plot.{text_of}
 use Rattle.inking.specs.Inking.{filter_read}
 use Rattle.dot.proofs.Texts.{states_are, labels_are, edges_are}
-use Rattle.dot.specs.declared.Made.{Made}
-use Rattle.dot.specs.declared.Made.TheVariants as made
-use Rattle.dot.specs.Promise.{made_outcome, from_dot_of, file_of, FromDotPromise, drawable, to_dot_of, ToDotPromise}
+use Rattle.dot.specs.Promise.{Made}
+use Rattle.dot.specs.Promise.{from_dot_of, FromDotPromise, drawable, to_dot_of, ToDotPromise}
 
 -- ---- from_dot
 
@@ -42,9 +41,6 @@ module _ (P : Profile) (text : List ℕ) (s : Survey) (k : Known text s) where
   pub inside_is : (room : ℕ) → from_dot_of P text room ≡ write_of P (filter_read (read_of text)) true room
   unfolding from_dot_of
   inside_is room = rw k.read
-
-  pub file_is : file_of P (read_of text) ≡ written P (filter_read (read_of text))
-  file_is = rw k.read
 
   pub passed : (room : ℕ) (vs : List ℕ) → from_dot_of P text room ≡ accepted vs → Written P (filter_read (read_of text)) true room vs
   passed room vs h = write_written P (filter_read (read_of text)) true room vs (sym (inside_is room) ∙ h)
@@ -87,30 +83,19 @@ module _ (P : Profile) (text : List ℕ) (s : Survey) (k : Known text s) where
         le-ltb (s.states * s.labels) s.edges l,
       ) (then_then (first_fault s.states s.labels none edges) (first_leaving (fault_colour P) (colours_of (read_of text)) edges) _)
 
--- a refusal leaves the room as found
-pub file_refused : (P : Profile) (text room : List ℕ) (r : Made) (why : Refusal) →
-    made_outcome r ≡ from_dot_of P text (length room) → r ≡ made.Refused why → FromDotPromise P text room r room
-file_refused P text room r why h e = rw e (promise_refused _ why _ (sym h ∙ ap made_outcome e))
-
--- else the file is laid into it
-pub file_laid : (P : Profile) (text room : List ℕ) (r : Made) (n : ℕ) →
-    made_outcome r ≡ from_dot_of P text (length room) → r ≡ made.Accepted n →
-    FromDotPromise P text room (made.Accepted n) (laid (file_of P (read_of text)) room)
-file_laid P text room r n h e = promise_accepted _ _ _ (sym h ∙ ap made_outcome e)
-
 -- text outside the profile
 pub outside_refused : (P : Profile) (text room : List ℕ) (place : ℕ) (why : Refusal) → refusal_outcome why ≡ refused 15 place → read_of text ≡ outside place →
-    FromDotPromise P text room (made.Refused why) room
+    FromDotPromise P text room (Err why) room
 unfolding from_dot_of
 outside_refused P text room place why h e = promise_refused (from_dot_of P text (length room)) why _ (rw e (sym h))
 
 -- ---- to_dot
 
 -- a file that is refused ends the call with that same refusal
-pub draw_refused : (P : Profile) (file room : List ℕ) (answer : Checked) (why r : Refusal) → CheckPromise P file answer → answer ≡ checked.Refused why →
-    onward (checked_outcome answer) (refusal_outcome r) ≡ refusal_outcome r → ToDotPromise P file room (made.Refused r) room
+pub draw_refused : (P : Profile) (file room : List ℕ) (answer : Checked) (why : Refusal) → CheckPromise P file answer → answer ≡ Err why →
+    ToDotPromise P file room (Err why) room
 unfolding to_dot_of
-draw_refused P file room answer why r h e o = promise_refused (to_dot_of P file (length room)) r _ (rw (← h, e) (rw e at o))
+draw_refused P file room answer why h e = promise_refused (to_dot_of P file (length room)) why _ (rw (← h, e))
 
 module _ (P : Profile) (file : List ℕ) (r : Reading) (a : ReadIs P file r) (room : List ℕ) where
   -- a filter that can't be written
@@ -127,18 +112,18 @@ module _ (P : Profile) (file : List ℕ) (r : Reading) (a : ReadIs P file r) (ro
   can_draw z e =
       rw (eq-eqb (start_in P file) 0 (sym a.start_is ∙ z), eq-eqb (labels_in P file) (labels_of (edges_in P file)) (sym a.labels_are ∙ e))
 
-  undrawable : (answer : Made) → answer ≡ made.Refused (record { kind = Drawing; place = 0 }) → drawable (filter_in P file) ≡ false → ToDotPromise P file room answer room
+  undrawable : (answer : Made) → answer ≡ Err (record { kind = Drawing; place = 0 }) → drawable (filter_in P file) ≡ false → ToDotPromise P file room answer room
   unfolding to_dot_of
   undrawable answer e d = rw e (promise_refused (to_dot_of P file (length room)) (record { kind = Drawing; place = 0 }) _ (rw (a.answer, d)))
 
-  pub other_start : (answer : Made) → answer ≡ made.Refused (record { kind = Drawing; place = 0 }) → (r.start ≡ 0 → ⊥) → ToDotPromise P file room answer room
+  pub other_start : (answer : Made) → answer ≡ Err (record { kind = Drawing; place = 0 }) → (r.start ≡ 0 → ⊥) → ToDotPromise P file room answer room
   other_start answer e d = undrawable answer e (start_other d)
 
-  pub other_labels : (answer : Made) → answer ≡ made.Refused (record { kind = Drawing; place = 0 }) → r.start ≡ 0 → (r.labels ≡ labels_of (edges_in P file) → ⊥) →
+  pub other_labels : (answer : Made) → answer ≡ Err (record { kind = Drawing; place = 0 }) → r.start ≡ 0 → (r.labels ≡ labels_of (edges_in P file) → ⊥) →
       ToDotPromise P file room answer room
   other_labels answer e z d = undrawable answer e (labels_other z d)
 
-  pub short_room : (answer : Made) → answer ≡ made.Refused (record { kind = AnswerRoom; place = 0 }) → drawable (filter_in P file) ≡ true →
+  pub short_room : (answer : Made) → answer ≡ Err (record { kind = AnswerRoom; place = 0 }) → drawable (filter_in P file) ≡ true →
       length room < length (text_of P file) → ToDotPromise P file room answer room
   unfolding to_dot_of
   short_room answer e d l =
@@ -146,7 +131,7 @@ module _ (P : Profile) (file : List ℕ) (r : Reading) (a : ReadIs P file r) (ro
 
   -- else the text is written
   pub drawn-laid : (n : ℕ) (left : List ℕ) → n ≡ length (text_of P file) → left ≡ wrote room 0 (text_of P file) → drawable (filter_in P file) ≡ true →
-      length (text_of P file) ≤ length room → ToDotPromise P file room (made.Accepted n) left
+      length (text_of P file) ≤ length room → ToDotPromise P file room (Ok n) left
   unfolding to_dot_of
   drawn-laid n left e w d l =
       let is : left ≡ laid (text_of P file) room = w ∙ ap (λ (k : ℕ). text_of P file ++ drop k room) (zero-add (length (text_of P file))) in

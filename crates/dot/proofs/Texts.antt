@@ -11,12 +11,8 @@ use lib.ListN.{length}
 use borrow.Author.Tests.{ltb-true, ltb-false, le-leb, lt-leb, leb-true, leb-false}
 use Rattle.meaning.specs.Cases.{cases_of, impossible}
 use Rattle.meaning.specs.Filter.{Edge}
-use Rattle.layout.specs.declared.Profile.{Profile}
-use Rattle.layout.specs.Layout.{fault_colour}
-use Rattle.layout.specs.Code.{Usable}
-use Rattle.edges.specs.declared.Verdict.{Verdict}
+use Rattle.layout.specs.declared.profile.Profile.{Profile}
 use Rattle.edges.specs.Faults.{listed_from, edge_fault, or_else, first_fault, first_leaving}
-use Rattle.edges.specs.Walk.{fault_of}
 use Rattle.files.specs.Files.{within, all_below, holdable}
 use Rattle.drawing.specs.Profile.{larger, labels_of}
 use Rattle.drawing.specs.Reader.{Read, drawing, outside, colours_of, edges_of, read_of}
@@ -24,25 +20,8 @@ use Rattle.drawing.specs.More.{larger_is}
 use Rattle.surveying.specs.declared.Survey.{Survey}
 use Rattle.surveying.specs.Surveys.{bound, survey_of, smaller, fault_among, fault_in, surveyed, Known}
 use Rattle.surveying.specs.Surveys as found
-use Rattle.dot.specs.Tests.{Testable}
 
 -- ---- surveys
-
-testable_as : (P : Profile) → Usable P → (text : List ℕ) (s : Survey) (v : Verdict) (r : Read) → read_of text ≡ r →
-    found.inside s (fault_of v) ≡ surveyed (fault_colour P) r → Testable P text s v
-testable_as P ok text s v (drawing cs es) e h =
-    let survey : s ≡ survey_of cs es = cc in
-    let fault : fault_of v ≡ fault_in (fault_colour P) cs es = cc in
-    record {
-      usable = ok;
-      known = record { colours = cs; edges = es; read = e; survey = survey };
-      fault = rw e fault;
-    }
-testable_as P ok text s v (outside p) e h = impossible cc
-
-pub testable_of : (P : Profile) → Usable P → (text : List ℕ) (s : Survey) (v : Verdict) →
-    found.inside s (fault_of v) ≡ surveyed (fault_colour P) (read_of text) → Testable P text s v
-testable_of P ok text s v h = testable_as P ok text s v (read_of text) refl h
 
 pub edges_are : (text : List ℕ) (s : Survey) → Known text s → s.edges ≡ length (edges_of (read_of text))
 edges_are text s k = ap (λ (x : Survey). x.edges) k.survey ∙ sym (ap (λ (r : Read). length (edges_of r)) k.read)

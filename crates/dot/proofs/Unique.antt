@@ -7,8 +7,8 @@ use denote.Triple.Clauses.{AtExit}
 use mathlib.Core.Path.{◌≡◌, ap}
 use Rattle.meaning.specs.Cases.{impossible}
 use Rattle.refusals.proofs.Laws.{refusal_one, promise_one}
-use Rattle.dot.specs.declared.Made.{Made}
-use Rattle.dot.specs.declared.Made.TheVariants as made
+use Rattle.dot.specs.Promise.{Made}
+use Rattle.std.specs.Prelude.{Ok, Err}
 use Rattle.dot.specs.Promise.{made_outcome}
 use Rattle.dot.specs.contracts.from_dot as from_dot
 use Rattle.dot.proofs.from_dot.Kinds as from_dot_kinds
@@ -18,10 +18,10 @@ use Rattle.dot.proofs.to_dot.Kinds as to_dot_kinds
 use Rattle.dot.proofs.to_dot.Reads as to_dot_reads
 
 pub made_one : (a b : Made) → made_outcome a ≡ made_outcome b → a ≡ b
-made_one (made.Accepted m) (made.Accepted n) e = ap made.Accepted (cc e)
-made_one (made.Refused r) (made.Refused s) e = ap made.Refused (refusal_one r s e)
-made_one (made.Accepted m) (made.Refused s) e = impossible cc
-made_one (made.Refused r) (made.Accepted n) e = impossible cc
+made_one (Ok m) (Ok n) e = ap Ok (cc e)
+made_one (Err r) (Err s) e = ap Err (refusal_one r s e)
+made_one (Ok m) (Err s) e = impossible cc
+made_one (Err r) (Ok n) e = impossible cc
 
 pub from_dot_contract_one : (κs : Lfts 2) (a : ArgsD from_dot.signature κs) (r₁ r₂ : ResD from_dot.signature κs)
     (s₁ s₂ : AtExit (ended_of 2 from_dot_kinds.ps from_dot_kinds.r) κs) →

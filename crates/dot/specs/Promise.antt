@@ -1,23 +1,25 @@
 -- What from_dot and to_dot answer, and what they promise of their answers and of every byte that they are lent to write (document
 -- 02, wish 1).
 -- Assumes nothing.
-use Rattle.std.specs.Prelude.{ℕ, Bool, true, not, ◌&&◌, List, [], ◌∷◌, eqb, length}
+use Rattle.std.specs.Prelude.{Result, Ok, Err, ℕ, Bool, true, not, ◌&&◌, List, [], ◌∷◌, eqb, length}
 use Rattle.meaning.specs.Filter.{Filter}
+use Rattle.refusals.specs.declared.Refusal.{Refusal}
 use Rattle.refusals.specs.Refusals.{Outcome, accepted, refused, refusal_outcome, Test, test, first_of, onward, room_test, Lent, lent, Promise}
-use Rattle.layout.specs.declared.Profile.{Profile}
+use Rattle.layout.specs.declared.profile.Profile.{Profile}
 use Rattle.layout.specs.Layout.{written}
 use Rattle.layout.specs.Contents.{filter_in}
 use Rattle.files.specs.Files.{check_of, write_of}
 use Rattle.drawing.specs.Profile.{labels_of, filter_of}
 use Rattle.drawing.specs.Reader.{Read, drawing, outside, read_of}
 use Rattle.plotting.specs.Plot.{text_of}
-use Rattle.dot.specs.declared.Made.{Made}
-use Rattle.dot.specs.declared.Made.TheVariants as made
 
 -- the length
+abbrev pub Made : Type 0
+Made = Result ℕ Refusal
+
 abbrev pub made_outcome : Made → Outcome
-made_outcome (made.Accepted n) = accepted (n ∷ [])
-made_outcome (made.Refused r) = refusal_outcome r
+made_outcome (Ok n) = accepted (n ∷ [])
+made_outcome (Err r) = refusal_outcome r
 
 -- ---- a text becomes a file
 

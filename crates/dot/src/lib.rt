@@ -4,37 +4,25 @@
 ghost use Rattle.std.specs.Prelude.{◌≡◌, [], ◌∷◌, length};
 ghost use Rattle.refusals.specs.Refusals.{accepted, first_of, room_test};
 ghost use Rattle.layout.specs.Layout.{large};
-ghost use Rattle.layout.specs.Code.{Usable};
 ghost use Rattle.files.specs.Files.{holdable};
-ghost use Rattle.checking.specs.Promise.{CheckPromise};
 ghost use Rattle.drawing.specs.Reader.{colours_of, read_of};
 ghost use Rattle.surveying.specs.Surveys.{Known};
 ghost use Rattle.dot.specs.Promise.{made_outcome, from_dot_of, FromDotPromise, ToDotPromise};
 ghost use Rattle.dot.specs.Tests.{Testable};
 
-use checking::Checked;
-use edges::Verdict;
-use layout::Profile;
+use drawing::Outside;
+use layout::{Format, Large, Profile};
 use refusals::{Kind, Refusal};
-use surveying::{Survey, Surveyed};
-
-// The length of what was written; or why nothing was.
-#[derive(Clone, Copy)]
-pub enum Made {
-    Accepted(usize),
-    Refused(Refusal),
-}
+use surveying::Survey;
 
 // Writes the file of the filter that a text draws, and answers its length.
-pub fn from_dot(text: &[u8], room: &mut [u8]) -> Made
+pub fn from_dot(text: &[u8], room: &mut [u8]) -> Result<usize, Refusal>
     ensures { FromDotPromise large text.now room.old result room.new }
 {
-    let p = layout::large();
-    let fault = p.fault;
-    let surveyed = surveying::survey_of(text, fault);
-    match surveyed {
-        Surveyed::Inside(s, verdict) => file(p, text, s, verdict, room),
-        Surveyed::Outside(place) => Made::Refused(Refusal {
+    let p = Large::profile();
+    match surveying::survey_of(text, p.fault) {
+        Ok((s, verdict)) => file(p, text, s, verdict, room),
+        Err(Outside { place }) => Err(Refusal {
             kind: Kind::Drawing,
             place,
         }),
@@ -42,26 +30,35 @@ pub fn from_dot(text: &[u8], room: &mut [u8]) -> Made
 }
 
 // The same for a text of the profile.
-fn file(p: Profile, text: &[u8], s: Survey, verdict: Verdict, room: &mut [u8]) -> Made
+fn file(
+    p: Profile,
+    text: &[u8],
+    s: Survey,
+    verdict: Result<(), Refusal>,
+    room: &mut [u8],
+) -> Result<usize, Refusal>
     requires { Testable p text.now s verdict }
     ensures { FromDotPromise p text.now room.old result room.new }
 {
-    let answer = test(p, text, s, verdict, room.len());
-    let Made::Accepted(length) = answer else {
-        return answer;
-    };
+    let length = test(p, text, s, verdict, room.len())?;
     inking::write(p, text, s, room);
-    Made::Accepted(length)
+    Ok(length)
 }
 
-fn not_made(kind: Kind) -> Made
-    ensures { result ≡ Made.Refused (record { kind = kind; place = 0 }) }
+fn not_made(kind: Kind) -> Result<usize, Refusal>
+    ensures { result ≡ Err (record { kind = kind; place = 0 }) }
 {
-    Made::Refused(refusals::plain(kind))
+    Err(kind.into())
 }
 
 // What is answered for a text of the profile and the length of a room. The start is 0, so that 2 is never given.
-fn test(p: Profile, text: &[u8], s: Survey, verdict: Verdict, room: usize) -> Made
+fn test(
+    p: Profile,
+    text: &[u8],
+    s: Survey,
+    verdict: Result<(), Refusal>,
+    room: usize,
+) -> Result<usize, Refusal>
     requires { Testable p text.now s verdict }
     ensures { made_outcome result ≡ from_dot_of p text.now room }
 {
@@ -73,25 +70,23 @@ fn test(p: Profile, text: &[u8], s: Survey, verdict: Verdict, room: usize) -> Ma
     if n * s.labels < e {
         return not_made(Kind::EdgeCount);
     }
-    let Verdict::Faulty(why) = verdict else {
-        return test_room(layout::bytes_for(layout::file_bits(p, n, e)), room);
-    };
-    Made::Refused(why)
+    verdict?;
+    test_room(layout::bytes_for(layout::file_bits(p, n, e)), room)
 }
 
 // The length, if the room holds the file.
-fn test_room(length: usize, room: usize) -> Made
+fn test_room(length: usize, room: usize) -> Result<usize, Refusal>
     ensures { made_outcome result ≡ first_of (room_test length room) (accepted (length ∷ [])) }
 {
     if room < length {
         return not_made(Kind::AnswerRoom);
     }
-    Made::Accepted(length)
+    Ok(length)
 }
 
 // Whether the file's widths hold so many states, so many labels and each colour.
 fn holdable(p: Profile, text: &[u8], s: Survey) -> bool
-    requires { Usable p × Known text.now s }
+    requires { Known text.now s }
     ensures { result ≡ holdable p (colours_of (read_of text.now)) s.labels }
 {
     if s.states < 1 {
@@ -107,19 +102,19 @@ fn holdable(p: Profile, text: &[u8], s: Survey) -> bool
 }
 
 // Writes the drawing of a file's filter, and answers its length.
-pub fn to_dot(file: &[u8], room: &mut [u8]) -> Made
+pub fn to_dot(file: &[u8], room: &mut [u8]) -> Result<usize, Refusal>
     ensures { ToDotPromise large file.now room.old result room.new }
 {
-    draw(layout::large(), checking::check(file), file, room)
+    draw(Large::profile(), file, room)
 }
 
-// The same for any widths, behind the file's own tests.
-fn draw(p: Profile, checked: Checked, file: &[u8], room: &mut [u8]) -> Made
-    requires { Usable p × CheckPromise p file.now checked }
+// The same for any widths.
+fn draw(p: Profile, file: &[u8], room: &mut [u8]) -> Result<usize, Refusal>
     ensures { ToDotPromise p file.now room.old result room.new }
 {
-    let Checked::Accepted(r) = checked else {
-        return Made::Refused(checking::refusal(checked));
+    let checked = checking::check_as(p, file);
+    let Ok(r) = checked else {
+        return Err(checked.unwrap_err());
     };
     let n = r.states;
     let e = r.edges;
@@ -135,5 +130,5 @@ fn draw(p: Profile, checked: Checked, file: &[u8], room: &mut [u8]) -> Made
         return not_made(Kind::AnswerRoom);
     }
     plotting::put(p, file, &colours, n, e, room);
-    Made::Accepted(extent.length)
+    Ok(extent.length)
 }

@@ -2,7 +2,7 @@
 -- and the place at which another text leaves the profile is the length of its longest beginning that some text of the profile
 -- also has.
 -- Assumes nothing.
-use Rattle.std.specs.Prelude.{ℕ, zero, suc, ◌+◌, ◌≤◌, ◌<◌, ◌≡◌, refl, true, List, [], ◌∷◌, ◌++◌, eqb, ltb, length, take, drop}
+use Rattle.std.specs.Prelude.{Ok, Err, ℕ, zero, suc, ◌+◌, ◌≤◌, ◌<◌, ◌≡◌, refl, true, List, [], ◌∷◌, ◌++◌, eqb, ltb, length, take, drop}
 use Rattle.std.proofs.Common.{sym, ap, ◌∙◌, append_assoc, zero-add, arith, length-drop, take-append-drop, take-take, eqb-true, eq-eqb, ltb-true, ltb-false}
 use Rattle.std.proofs.Math.Seq.{drop-length}
 use Rattle.meaning.specs.Pick.{pick}
@@ -14,10 +14,9 @@ use Rattle.layout.specs.declared.edge.Edge.{Edge}
 use Rattle.layout.specs.Code.{edge_of}
 use Rattle.spelling.specs.Spelling.{matched}
 use Rattle.spelling.specs.Words.{common_of, Stands, behind_of, stands_of, stands-inside, matched-stands}
-use Rattle.drawing.specs.declared.Statement.{Statement}
 use Rattle.drawing.specs.declared.Statement.TheVariants as statement
 use Rattle.drawing.specs.Profile.{opening, closing, state_line, edge_line, state_lines, edge_lines, drawn, short_edge, InProfile, Begins, Longest}
-use Rattle.drawing.specs.Reader.{Read, drawing, outside, with_state, with_edge, no_state, behind, statement_at, statements_from, read_of}
+use Rattle.drawing.specs.Reader.{Stated, Read, drawing, outside, with_state, with_edge, no_state, behind, statement_at, statements_from, read_of}
 use Rattle.drawing.specs.Lines.{StatementIs, statement_is, state_longer, edge_longer, read_state, read_edge, read_closing}
 use Rattle.drawing.specs.Stuck.{Word, Stuck, StuckAt, stuck_as, stuck_longest, at_word, at_miss}
 use Rattle.drawing.specs.Places.{DrawnFrom, only_closing, is_closing, with_state_lem, first_state, with_edge_lem, first_edge, Lines, some_lines, at_statement}
@@ -29,31 +28,31 @@ abbrev FromIs : List ℕ → ℕ → ℕ → Read → Type 0
 FromIs text at next (drawing colours edges) = DrawnFrom next colours edges (drop at text)
 FromIs text at next (outside place) = StuckAt (Lines next) text at place
 
-from_state : {text : List ℕ} {at end : ℕ} (next colour : ℕ) (r : Read) → next ≤ 1000 → statement_at text at next ≡ statement.State colour end →
+from_state : {text : List ℕ} {at end : ℕ} (next colour : ℕ) (r : Read) → next ≤ 1000 → statement_at text at next ≡ Ok (statement.State colour end) →
     colour < 1000 → Stands text at (state_line next colour) end → FromIs text end (suc next) r → FromIs text at next (with_state colour r)
 from_state next colour (drawing cs es) h e c s x = rw s.is (with_state_lem colour c x)
 from_state {text} {at} next colour (outside place) h e c s x = at_statement next text at place h (rw e x)
 
-from-edge : {text : List ℕ} {at end : ℕ} (next : ℕ) (f : Edge) (r : Read) → next ≤ 1000 → statement_at text at next ≡ statement.Edge f end →
+from-edge : {text : List ℕ} {at end : ℕ} (next : ℕ) (f : Edge) (r : Read) → next ≤ 1000 → statement_at text at next ≡ Ok (statement.Edge f end) →
     short_edge (edge_of f) ≡ true → Stands text at (edge_line (edge_of f)) end → FromIs text end no_state r → FromIs text at next (with_edge (edge_of f) r)
 from-edge next f (drawing cs es) h e c s x = rw s.is (with_edge_lem next (edge_of f) h c x)
 from-edge {text} {at} next f (outside place) h e c s x = at_statement next text at place h (rw e x)
 
-from-closing : {text : List ℕ} {at end : ℕ} (next : ℕ) → next ≤ 1000 → statement_at text at next ≡ statement.Closing end → Stands text at closing end →
+from-closing : {text : List ℕ} {at end : ℕ} (next : ℕ) → next ≤ 1000 → statement_at text at next ≡ Ok (statement.Closing end) → Stands text at closing end →
     FromIs text at next (pick (eqb end (length text)) (drawing [] []) (outside end))
 from-closing {text} {at} {end} next h e s = cases_of (eqb end (length text))
     (λ q. rw (q, s.is, eqb-true end (length text) q, drop-length text) (only_closing next h))
     (λ q. rw q (at_statement next text at end h (rw e (refl, q))))
 
-from_step : (text : List ℕ) (at next : ℕ) (following : ℕ → ℕ → Read) (r : Statement) → next ≤ 1000 → at ≤ length text → statement_at text at next ≡ r →
+from_step : (text : List ℕ) (at next : ℕ) (following : ℕ → ℕ → Read) (r : Stated) → next ≤ 1000 → at ≤ length text → statement_at text at next ≡ r →
     StatementIs text at next r → ((end next' : ℕ) → at < end → end ≤ length text → next' ≤ 1000 → FromIs text end next' (following end next')) →
     FromIs text at next (behind text next following r)
-from_step text at next following (statement.State colour end) h l e x more =
+from_step text at next following (Ok (statement.State colour end)) h l e x more =
     from_state next colour (following end (suc next)) h e x.1 x.2 (more end (suc next) (state_longer next colour x.2) (stands-inside x.2 l) x.0)
-from_step text at next following (statement.Edge f end) h l e x more =
+from_step text at next following (Ok (statement.Edge f end)) h l e x more =
     from-edge next f (following end no_state) h e x.0 x.1 (more end no_state (edge_longer (edge_of f) x.1) (stands-inside x.1 l) (omega arith))
-from_step text at next following (statement.Closing end) h l e x more = from-closing next h e x
-from_step text at next following (statement.Outside place) h l e x more = at_statement next text at place h (rw e refl)
+from_step text at next following (Ok (statement.Closing end)) h l e x more = from-closing next h e x
+from_step text at next following (Err left) h l e x more = at_statement next text at left.place h (rw e refl)
 
 from_is : (count : ℕ) (text : List ℕ) (at next : ℕ) → next ≤ 1000 → at ≤ length text → length text < at + count →
     FromIs text at next (statements_from count text at next)

@@ -1,6 +1,6 @@
 -- Laws of statements: what is read stands there, and what stands there is read.
 -- Assumes nothing.
-use Rattle.std.specs.Prelude.{ℕ, ◌+◌, ◌≤◌, ◌<◌, ◌≡◌, refl, Bool, true, false, ◌&&◌, List, ◌++◌, eqb, ltb, length, drop, get_or}
+use Rattle.std.specs.Prelude.{Ok, Err, ℕ, ◌+◌, ◌≤◌, ◌<◌, ◌≡◌, refl, Bool, true, false, ◌&&◌, List, ◌++◌, eqb, ltb, length, drop, get_or}
 use Rattle.std.proofs.Common.{sym, ap, ◌∙◌, arith, length-append, get_or-drop, eqb-true, eq-eqb, ne_eqb, ltb-true, lt-ltb}
 use Rattle.meaning.specs.Cases.{cases_of, and_intro, and_left, and_right}
 use Rattle.meaning.specs.Filter as meaning
@@ -10,13 +10,10 @@ use Rattle.text.specs.Decimal.{decimal}
 use Rattle.spelling.specs.Spelling.{matched, number_to, number_at}
 use Rattle.spelling.specs.Words.{Stands, stands_of, stands-inside, stands_then, stands-split, matched-inside, matched-stands, matched_of}
 use Rattle.spelling.specs.Numbers.{decimal_some, number_end, number_sound, number_read, number_none}
-use Rattle.drawing.specs.declared.Labelled.{Labelled}
-use Rattle.drawing.specs.declared.Labelled.TheVariants as labelled
-use Rattle.drawing.specs.declared.Statement.{Statement}
 use Rattle.drawing.specs.declared.Statement.TheVariants as statement
 use Rattle.drawing.specs.declared.Line.{Line}
 use Rattle.drawing.specs.Profile.{arrow, label_word, line_end, closing, labelled, state_line, edge_line, short_edge}
-use Rattle.drawing.specs.Reader.{labelled_at, state_of, edge_between, state_from, edge_from, target_at, closing_at, statement_at, line_at}
+use Rattle.drawing.specs.Reader.{Labelled, with, Stated, leaves_at, labelled_at, state_of, edge_between, state_from, edge_from, target_at, closing_at, statement_at, line_at}
 
 abbrev pub line_to : meaning.Edge → ℕ → Line
 line_to e end = record { edge = record { source = e.source; label = e.label; target = e.target }; end = end }
@@ -38,8 +35,8 @@ short_edge_lem {source} {label} {target} h k l = and_intro (lt-ltb source 1000 h
 
 -- What reading a label's end says of a text.
 abbrev pub LabelledIs : List ℕ → ℕ → Labelled → Type 0
-LabelledIs text at (labelled.Value value end) = (value < 1000) × Stands text at (labelled value) end
-LabelledIs text at (labelled.Outside place) = (at ≤ place) × (place ≤ length text)
+LabelledIs text at (Ok label) = (label.value < 1000) × Stands text at (labelled label.value) label.end
+LabelledIs text at (Err left) = (at ≤ left.place) × (left.place ≤ length text)
 
 pub labelled_is : (text : List ℕ) (at : ℕ) → at ≤ length text → LabelledIs text at (labelled_at text at)
 unfolding labelled_at
@@ -56,25 +53,25 @@ labelled_is text at h =
     (λ s. rw (q, r, s) (n.0, stands_then word (stands_then n.1 (matched-stands text value.end line_end s))))))
 
 -- What reading a statement says of a text.
-abbrev pub StatementIs : List ℕ → ℕ → ℕ → Statement → Type 0
-StatementIs text at next (statement.State colour end) = (next < 1000) × (colour < 1000) × Stands text at (state_line next colour) end
-StatementIs text at next (statement.Edge e end) = (short_edge (edge_of e) ≡ true) × Stands text at (edge_line (edge_of e)) end
-StatementIs text at next (statement.Closing end) = Stands text at closing end
-StatementIs text at next (statement.Outside place) = (at ≤ place) × (place ≤ length text)
+abbrev pub StatementIs : List ℕ → ℕ → ℕ → Stated → Type 0
+StatementIs text at next (Ok (statement.State colour end)) = (next < 1000) × (colour < 1000) × Stands text at (state_line next colour) end
+StatementIs text at next (Ok (statement.Edge e end)) = (short_edge (edge_of e) ≡ true) × Stands text at (edge_line (edge_of e)) end
+StatementIs text at next (Ok (statement.Closing end)) = Stands text at closing end
+StatementIs text at next (Err left) = (at ≤ left.place) × (left.place ≤ length text)
 
 state_is : {text : List ℕ} {at mid : ℕ} (next : ℕ) (r : Labelled) → next < 1000 → Stands text at (decimal next) mid → LabelledIs text mid r →
     StatementIs text at next (state_of r)
 unfolding state_line
-state_is next (labelled.Value colour end) h s x = (h, x.0, stands_then s x.1)
-state_is next (labelled.Outside place) h s x = (omega (arith, s.ends, x.0), x.1)
+state_is next (Ok label) h s x = (h, x.0, stands_then s x.1)
+state_is next (Err left) h s x = (omega (arith, s.ends, x.0), x.1)
 
 edge_is : {text : List ℕ} {at a b c : ℕ} (next source target : ℕ) (r : Labelled) → source < 1000 → target < 1000 →
     Stands text at (decimal source) a → Stands text a arrow b → Stands text b (decimal target) c → LabelledIs text c r →
     StatementIs text at next (edge_between source target r)
 unfolding edge_line
-edge_is next source target (labelled.Value label end) h k s t u x =
+edge_is next source target (Ok label) h k s t u x =
     (short_edge_lem h x.0 k, stands_then s (stands_then t (stands_then u x.1)))
-edge_is next source target (labelled.Outside place) h k s t u x = (omega (arith, s.ends, t.ends, u.ends, x.0), x.1)
+edge_is next source target (Err left) h k s t u x = (omega (arith, s.ends, t.ends, u.ends, x.0), x.1)
 
 pub statement_is : (text : List ℕ) (at next : ℕ) → at ≤ length text → StatementIs text at next (statement_at text at next)
 unfolding statement_at closing_at state_from edge_from target_at
@@ -101,18 +98,18 @@ statement_is text at next h =
     (labelled_is text target.end (stands-inside m.1 h₂)))))))
 
 -- one kind of statement at a time
-pub statement_state : (text : List ℕ) (at next colour end : ℕ) → at ≤ length text → statement_at text at next ≡ statement.State colour end →
+pub statement_state : (text : List ℕ) (at next colour end : ℕ) → at ≤ length text → statement_at text at next ≡ Ok (statement.State colour end) →
     (next < 1000) × (colour < 1000) × Stands text at (state_line next colour) end
 statement_state text at next colour end h e = rw e at (statement_is text at next h)
 
-pub statement_edge : (text : List ℕ) (at next : ℕ) (e : Edge) (end : ℕ) → at ≤ length text → statement_at text at next ≡ statement.Edge e end →
+pub statement_edge : (text : List ℕ) (at next : ℕ) (e : Edge) (end : ℕ) → at ≤ length text → statement_at text at next ≡ Ok (statement.Edge e end) →
     (short_edge (edge_of e) ≡ true) × Stands text at (edge_line (edge_of e)) end
 statement_edge text at next e end h q = rw q at (statement_is text at next h)
 
-pub statement_closing : (text : List ℕ) (at next end : ℕ) → at ≤ length text → statement_at text at next ≡ statement.Closing end → Stands text at closing end
+pub statement_closing : (text : List ℕ) (at next end : ℕ) → at ≤ length text → statement_at text at next ≡ Ok (statement.Closing end) → Stands text at closing end
 statement_closing text at next end h e = rw e at (statement_is text at next h)
 
-pub statement_outside : (text : List ℕ) (at next place : ℕ) → at ≤ length text → statement_at text at next ≡ statement.Outside place →
+pub statement_outside : (text : List ℕ) (at next place : ℕ) → at ≤ length text → statement_at text at next ≡ leaves_at place →
     (at ≤ place) × (place ≤ length text)
 statement_outside text at next place h e = rw e at (statement_is text at next h)
 
@@ -139,15 +136,15 @@ label_number {text} {at} {value} {end} s h =
     let number = stands-split (decimal value) line_end word.1 in
     (at + 8 + length (decimal value), longer (at + 8) value h, number_read number.0 h (rw number.1.is), number.1)
 
-pub labelled_read : {text : List ℕ} {at value end : ℕ} → Stands text at (labelled value) end → value < 1000 → labelled_at text at ≡ labelled.Value value end
+pub labelled_read : {text : List ℕ} {at value end : ℕ} → Stands text at (labelled value) end → value < 1000 → labelled_at text at ≡ with value end
 unfolding labelled_at
 labelled_read {text} {at} {value} {end} s h =
     let n = label_number s h in
     let word = (stands-split label_word (decimal value ++ line_end) s).0 in
-    rw (matched_of word, n.2, n.1, matched_of n.3) (ap (labelled.Value value) (sym n.3.ends))
+    rw (matched_of word, n.2, n.1, matched_of n.3) (ap (with value) (sym n.3.ends))
 
 pub read_state : {text : List ℕ} {at next colour end : ℕ} → Stands text at (state_line next colour) end → next < 1000 → colour < 1000 →
-    statement_at text at next ≡ statement.State colour end
+    statement_at text at next ≡ Ok (statement.State colour end)
 unfolding statement_at state_from state_line
 read_state {text} {at} {next} {colour} {end} s h k =
     let x = stands-split (decimal next) (labelled colour) s in
@@ -187,7 +184,7 @@ edge_read {text} {at} {end} e s h =
     }
 
 pub read_edge : {text : List ℕ} {at end : ℕ} (next : ℕ) (e : meaning.Edge) → Stands text at (edge_line e) end → short_edge e ≡ true →
-    statement_at text at next ≡ statement.Edge (record { source = e.source; label = e.label; target = e.target }) end
+    statement_at text at next ≡ Ok (statement.Edge (record { source = e.source; label = e.label; target = e.target }) end)
 unfolding statement_at edge_from target_at
 read_edge {text} {at} {end} next e s h =
     let x = edge_read e s h in
@@ -207,7 +204,7 @@ read_edge {text} {at} {end} next e s h =
     and_no true = refl
     and_no false = refl
 
-pub read_closing : {text : List ℕ} {at end : ℕ} (next : ℕ) → Stands text at closing end → statement_at text at next ≡ statement.Closing end
+pub read_closing : {text : List ℕ} {at end : ℕ} (next : ℕ) → Stands text at closing end → statement_at text at next ≡ Ok (statement.Closing end)
 unfolding statement_at closing_at
 read_closing {text} {at} {end} next s = rw (number_none text at (rw s.is), eq-eqb at at refl, matched_of s, s.ends)
 

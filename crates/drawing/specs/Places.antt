@@ -1,7 +1,7 @@
 -- Where a text leaves the profile: a statement at a time. From a place on, the profile's texts are a set that depends on the next
 -- state's number alone, and the place that reading a statement answers is how far the text goes along with that set.
 -- Assumes nothing.
-use Rattle.std.specs.Prelude.{ℕ, suc, ◌+◌, ◌≤◌, ◌<◌, ◌≡◌, refl, ◌⊎◌, true, false, ◌&&◌, List, [], ◌∷◌, ◌++◌, eqb, ltb, length, take, drop, get_or}
+use Rattle.std.specs.Prelude.{Ok, Err, ℕ, suc, ◌+◌, ◌≤◌, ◌<◌, ◌≡◌, refl, ◌⊎◌, true, false, ◌&&◌, List, [], ◌∷◌, ◌++◌, eqb, ltb, length, take, drop, get_or}
 use Rattle.std.proofs.Common.{sym, ap, ◌∙◌, inl, inr, ⊎_elim, append_assoc, arith, length-drop, get_or-drop, eqb-true, eq-eqb, ltb-true, lt-ltb}
 use Rattle.std.proofs.lemmas.Bool.{eqb-false}
 use Rattle.meaning.specs.Pick.{pick}
@@ -12,12 +12,9 @@ use Rattle.text.specs.Decimal.{decimal}
 use Rattle.spelling.specs.Spelling.{matched, number_at}
 use Rattle.spelling.specs.Words.{Stands, matched-stands, same_byte}
 use Rattle.spelling.specs.Numbers.{number_none, number_sound}
-use Rattle.drawing.specs.declared.Labelled.{Labelled}
-use Rattle.drawing.specs.declared.Labelled.TheVariants as labelled
-use Rattle.drawing.specs.declared.Statement.{Statement}
 use Rattle.drawing.specs.declared.Statement.TheVariants as statement
 use Rattle.drawing.specs.Profile.{arrow, label_word, line_end, closing, labelled, state_line, edge_line, state_lines, edge_lines, short_edge, Begins}
-use Rattle.drawing.specs.Reader.{labelled_at, state_of, edge_between, state_from, edge_from, target_at, closing_at, statement_at, no_state}
+use Rattle.drawing.specs.Reader.{Labelled, Stated, labelled_at, state_of, edge_between, state_from, edge_from, target_at, closing_at, statement_at, no_state}
 use Rattle.drawing.specs.Lines.{short_parts, short_edge_lem}
 use Rattle.drawing.specs.Stuck.{Word, Numbered, Clean, a_word, a_number, some_word, some_number, StuckAt, at_as, at_word, at_miss, at_number, no_number, at_no_number, parted}
 
@@ -191,8 +188,8 @@ lines_close next u h w = rw w.whole (closed next w.value w.rest h w.small w.more
 
 -- What follows behind a label leaves a set at a place; or the label does.
 abbrev AfterLabel : (List ℕ → Type 0) → List ℕ → ℕ → Labelled → Type 0
-AfterLabel Texts text place (labelled.Value value end) = StuckAt Texts text end place
-AfterLabel Texts text place (labelled.Outside q) = place ≡ q
+AfterLabel Texts text place (Ok label) = StuckAt Texts text label.end place
+AfterLabel Texts text place (Err left) = place ≡ left.place
 
 at_labels : (Texts : List ℕ → Type 0) (text : List ℕ) (at place : ℕ) → Begins Texts [] → AfterLabel Texts text place (labelled_at text at) →
     StuckAt (Labels Texts) text at place
@@ -210,20 +207,20 @@ at_labels Texts text at place b h =
     (λ s. at_word (matched-stands text value.end line_end s) (rw (q, r, s) at h))))))
 
 -- What follows behind a statement leaves the profile at a place; or the statement does.
-abbrev pub After : ℕ → List ℕ → ℕ → Statement → Type 0
-After next text place (statement.State colour end) = StuckAt (Lines (suc next)) text end place
-After next text place (statement.Edge e end) = StuckAt (Lines no_state) text end place
-After next text place (statement.Closing end) = (place ≡ end) × (eqb end (length text) ≡ false)
-After next text place (statement.Outside q) = place ≡ q
+abbrev pub After : ℕ → List ℕ → ℕ → Stated → Type 0
+After next text place (Ok (statement.State colour end)) = StuckAt (Lines (suc next)) text end place
+After next text place (Ok (statement.Edge e end)) = StuckAt (Lines no_state) text end place
+After next text place (Ok (statement.Closing end)) = (place ≡ end) × (eqb end (length text) ≡ false)
+After next text place (Err left) = place ≡ left.place
 
 after_state : (next : ℕ) (text : List ℕ) (place : ℕ) (r : Labelled) → After next text place (state_of r) → AfterLabel (Lines (suc next)) text place r
-after_state next text place (labelled.Value value end) h = h
-after_state next text place (labelled.Outside q) h = h
+after_state next text place (Ok label) h = h
+after_state next text place (Err left) h = h
 
 after_edge : (next : ℕ) (text : List ℕ) (place source target : ℕ) (r : Labelled) → After next text place (edge_between source target r) →
     AfterLabel (Lines no_state) text place r
-after_edge next text place source target (labelled.Value value end) h = h
-after_edge next text place source target (labelled.Outside q) h = h
+after_edge next text place source target (Ok label) h = h
+after_edge next text place source target (Err left) h = h
 
 at_arrows : (next : ℕ) (text : List ℕ) (at place source : ℕ) → After next text place (edge_from text at source) → StuckAt Arrows text at place
 unfolding edge_from target_at

@@ -4,25 +4,23 @@
 
 ghost use Rattle.std.specs.Prelude.{◌≡◌, ◌≤◌, length};
 ghost use Rattle.meaning.specs.Pick.{pick};
-ghost use Rattle.drawing.specs.Profile.{larger};
 ghost use Rattle.drawing.specs.Reader.{labelled_at, target_at};
 
 use layout::edge::Edge;
+use spelling::Number;
 
-// A number behind the word before it, and the place behind what it stands in; or where the text leaves the profile.
-#[derive(Clone, Copy)]
-pub enum Labelled {
-    Value(usize, usize),
-    Outside(usize),
+// Where a text leaves the profile.
+#[derive(Clone, Copy, Debug, PartialEq, Eq)]
+pub struct Outside {
+    pub place: usize,
 }
 
-// A state's colour, an edge, or the closing brace, with the place behind it; or where the text leaves the profile.
+// A state's colour, an edge, or the closing brace, with the place behind it.
 #[derive(Clone, Copy)]
 pub enum Statement {
     State(usize, usize),
     Edge(Edge, usize),
     Closing(usize),
-    Outside(usize),
 }
 
 // An edge and the place behind its statement.
@@ -32,47 +30,47 @@ pub struct Line {
     pub end: usize,
 }
 
-// ` [label=`, a number, `];` and the newline.
-pub fn label_at(text: &[u8], at: usize) -> Labelled
+// ` [label=`, a number, `];` and the newline; the number with the place behind all of it.
+pub fn label_at(text: &[u8], at: usize) -> Result<Number, Outside>
     requires { at ≤ length text.now }
     ensures { result ≡ labelled_at text.now at }
 {
     if !spelling::stands(text, at, b" [label=") {
-        return Labelled::Outside(at + spelling::matched(text, at, b" [label="));
+        return left_at(at + spelling::matched(text, at, b" [label="));
     }
-    let value = spelling::number_at(text, at + 8);
-    if value.end == at + 8 {
-        return Labelled::Outside(at + 8);
+    let label = spelling::number_at(text, at + 8);
+    if label.end == at + 8 {
+        return left_at(at + 8);
     }
-    if !spelling::stands(text, value.end, b"];\n") {
-        return Labelled::Outside(value.end + spelling::matched(text, value.end, b"];\n"));
+    if !spelling::stands(text, label.end, b"];\n") {
+        return left_at(label.end + spelling::matched(text, label.end, b"];\n"));
     }
-    Labelled::Value(value.value, value.end + 3)
+    Ok(Number {
+        value: label.value,
+        end: label.end + 3,
+    })
 }
 
 // ` -> ` and the target of an edge, behind its source. A state has no target: 0 stands for it, and nothing is read.
-pub fn target_at(text: &[u8], at: usize, state: bool) -> Labelled
+pub fn target_at(text: &[u8], at: usize, state: bool) -> Result<Number, Outside>
     requires { at ≤ length text.now }
-    ensures { result ≡ pick state (Labelled.Value 0 at) (target_at text.now at) }
+    ensures { result ≡ pick state (Ok (record { value = 0; end = at })) (target_at text.now at) }
 {
     if state {
-        return Labelled::Value(0, at);
+        return Ok(Number { value: 0, end: at });
     }
     if !spelling::stands(text, at, b" -> ") {
-        return Labelled::Outside(at + spelling::matched(text, at, b" -> "));
+        return left_at(at + spelling::matched(text, at, b" -> "));
     }
     let target = spelling::number_at(text, at + 4);
     if target.end == at + 4 {
-        return Labelled::Outside(at + 4);
+        return left_at(at + 4);
     }
-    Labelled::Value(target.value, target.end)
+    Ok(target)
 }
 
-pub fn larger(a: usize, b: usize) -> usize
-    ensures { result ≡ larger a b }
+fn left_at(place: usize) -> Result<Number, Outside>
+    ensures { result ≡ Err (record { place = place }) }
 {
-    if a < b {
-        return b;
-    }
-    a
+    Err(Outside { place })
 }

@@ -1,18 +1,17 @@
--- What the code's verdict and cursor stand for. No public call's promise speaks of these.
+-- What the code's answers stand for, and a walk over a file's edges. No public call's promise speaks of these.
 -- Assumes nothing.
-use Rattle.std.specs.Prelude.{ℕ, ◌+◌, ◌*◌, ◌-◌, ◌^◌, ◌<◌, ◌≤◌, ◌≡◌, List}
+use Rattle.std.specs.Prelude.{Result, Ok, Err, ℕ, ◌+◌, ◌*◌, ◌-◌, ◌^◌, ◌<◌, ◌≤◌, ◌≡◌, List}
 use Rattle.std.proofs.Math.Option.{Option, none, some}
 use Rattle.meaning.specs.Filter.{Edge}
 use Rattle.refusals.specs.Refusals.{number_of}
 use Rattle.refusals.specs.declared.Refusal.{Refusal}
-use Rattle.layout.specs.declared.Profile.{Profile}
+use Rattle.layout.specs.declared.profile.Profile.{Profile}
 use Rattle.layout.specs.declared.edge.Placed.{Placed}
+use Rattle.layout.specs.declared.edge.Edges.{Edges}
+use Rattle.layout.specs.Along.{Along}
 use Rattle.layout.specs.Layout.{edge_bits}
 use Rattle.layout.specs.Contents.{values, placed_from}
-use Rattle.layout.specs.Code.{Usable, Small, bare}
-use Rattle.edges.specs.declared.Verdict.{Verdict}
-use Rattle.edges.specs.declared.Verdict.TheVariants as verdict
-use Rattle.edges.specs.declared.Cursor.{Cursor}
+use Rattle.layout.specs.Code.{Small, bare}
 use Rattle.edges.specs.Faults.{Fault, edge_fault, first_fault}
 
 -- Where an edge stands in the order of edges, counted from 1; 0 where there is none before.
@@ -28,20 +27,23 @@ pub record Ranked (last : ℕ) (before : Option Edge) : Type 0 where
 abbrev pub fault_is : Refusal → Option Fault
 fault_is r = some (record { number = number_of r.kind; place = r.place })
 
+-- What tests of edges answer: that there is none of the faults, or the first of them.
+abbrev pub Verdict : Type 0
+Verdict = Result Unit Refusal
+
 abbrev pub fault_of : Verdict → Option Fault
-fault_of verdict.Faultless = none
-fault_of (verdict.Faulty r) = fault_is r
+fault_of (Ok passed) = none
+fault_of (Err r) = fault_is r
 
 -- The verdict on an edge is its fault behind whatever edge has rank `last`.
 abbrev pub Tested : ℕ → ℕ → ℕ → Placed → Verdict → Type 0
 Tested n m last edge v = (before : Option Edge) → Ranked last before → fault_of v ≡ edge_fault n m before edge
 
--- What is asked for going behind an edge.
-pub record Passable (P : Profile) (edge : Placed) (c : Cursor) : Type 0 where
-  pub usable : Usable P
-  pub small : Small (bare edge)
-  pub place : c.place < 2 ^ 63
-  pub index : c.index < 2 ^ 63
+-- Where a walk over a file's edges stands: the rank of the edge before, the bit at which the next one begins, and its index.
+pub record Cursor : Type 0 where
+  pub rank : ℕ
+  pub place : ℕ
+  pub index : ℕ
 
 -- A cursor one edge further: that edge is now the one before.
 abbrev pub behind : Profile → Placed → Cursor → Cursor
@@ -55,3 +57,8 @@ pub record Walked (P : Profile) (file : List ℕ) (at e n m : ℕ) (c : Cursor) 
   pub placed : c.place ≡ at + edge_bits P * c.index
   pub ranked : Ranked c.rank before
   pub left : first_fault n m none (placed_from P file at e) ≡ first_fault n m before (placed_from P file c.place (e - c.index))
+
+-- The same of the code's walk, behind an edge of rank `last`.
+pub record Walking (P : Profile) (file : List ℕ) (at e n m last : ℕ) (walk : Edges) : Type 0 where
+  pub along : Along P file at e walk
+  pub walked : Walked P file at e n m (record { rank = last; place = walk.place; index = walk.index })

@@ -1,27 +1,20 @@
-// Edges tested one behind another: 7, 8 and 9, the first of several that get 17, and the cursor that walks over a file's edges.
+// Edges tested one behind another: 7, 8 and 9, and the first of several that get 17.
 #![tactic(auto)]
 
 ghost use Rattle.std.specs.Prelude.{◌≡◌};
 ghost use Rattle.std.proofs.Math.Option.{some};
 ghost use Rattle.layout.specs.Code.{edge_of, bare, Small};
 ghost use Rattle.edges.specs.Faults.{listed_at, or_else};
-ghost use Rattle.edges.specs.Walk.{rank_of, fault_of, Tested, Passable, behind};
+ghost use Rattle.edges.specs.Walk.{rank_of, fault_of, Tested};
 
+use layout::Field;
 use layout::edge::{Edge, Placed};
-use layout::{Field, Profile};
 use refusals::{Kind, Refusal};
 
-// What tests of edges find: none of the faults, or the first of them.
-#[derive(Clone, Copy)]
-pub enum Verdict {
-    Faultless,
-    Faulty(Refusal),
-}
-
-fn faulty(kind: Kind, place: usize) -> Verdict
-    ensures { result ≡ Verdict.Faulty (record { kind = kind; place = place }) }
+fn faulty(kind: Kind, place: usize) -> Result<(), Refusal>
+    ensures { result ≡ Err (record { kind = kind; place = place }) }
 {
-    Verdict::Faulty(Refusal { kind, place })
+    Err(Refusal { kind, place })
 }
 
 // Where an edge stands in the order of edges, counted from 1. Sources and labels are bytes: the two side by side are one number,
@@ -54,7 +47,7 @@ pub fn listed(index: usize, edge: Edge) -> Placed
 }
 
 // The one test of an edge, behind the edge of rank `last`; 0: the first edge, which has none before it.
-pub fn test(n: usize, m: usize, last: usize, edge: Placed) -> Verdict
+pub fn test(n: usize, m: usize, last: usize, edge: Placed) -> Result<(), Refusal>
     requires { Small (bare edge) }
     ensures { Tested n m last edge result }
 {
@@ -77,49 +70,13 @@ pub fn test(n: usize, m: usize, last: usize, edge: Placed) -> Verdict
         }
         return faulty(Kind::Repeated, source.place);
     }
-    Verdict::Faultless
+    Ok(())
 }
 
 // With one more edge that leaves the fault colour, at a place: the first that was found.
-pub fn or_leaving(found: Verdict, place: usize) -> Verdict
+pub fn or_leaving(found: Result<(), Refusal>, place: usize) -> Result<(), Refusal>
     ensures { fault_of result ≡ or_else (fault_of found) (some (record { number = 17; place = place })) }
 {
-    let Verdict::Faultless = found else {
-        return found;
-    };
+    found?;
     faulty(Kind::Leaving, place)
-}
-
-// Where a walk over a file's edges stands: the rank of the edge before, the bit at which the next one begins, and its index.
-#[derive(Clone, Copy)]
-pub struct Cursor {
-    pub rank: usize,
-    pub place: usize,
-    pub index: usize,
-}
-
-impl Cursor {
-    // Before the first edge, which begins at bit `place`.
-    pub fn begin(place: usize) -> Cursor
-        ensures { result ≡ record { rank = 0; place = place; index = 0 } }
-    {
-        Cursor {
-            rank: 0,
-            place,
-            index: 0,
-        }
-    }
-
-    // Behind the edge that begins where it stands. Reading and testing it stand in the loops: a step that made all three would be
-    // too long to be inlined there.
-    pub fn behind(self, p: Profile, edge: Placed) -> Cursor
-        requires { Passable p edge self }
-        ensures { result ≡ behind p edge self }
-    {
-        Cursor {
-            rank: rank(layout::edge::bare(edge)),
-            place: self.place + layout::edge_bits(p),
-            index: self.index + 1,
-        }
-    }
 }

@@ -2,12 +2,12 @@
 use Rattle.std.specs.Prelude.{ℕ, ◌≡◌, ◌≤◌, true, List, [], ◌∷◌, length}
 use Rattle.meaning.specs.Filter.{in_order}
 use Rattle.refusals.specs.Refusals.{accepted}
-use Rattle.layout.specs.declared.Profile.{Profile}
+use Rattle.layout.specs.declared.profile.Profile.{Profile}
 use Rattle.layout.specs.declared.Reading.{Reading}
 use Rattle.layout.specs.Code.{Usable}
-use Rattle.layout.specs.Contents.{states_in, labels_in, start_in, count_in, filter_in}
+use Rattle.layout.specs.Contents.{filter_in}
 use Rattle.files.specs.Files.{numbers_in, reading_outcome, check_of}
-use Rattle.files.specs.Tests.{Sound, check_sound, ReadIs, writable_in_order}
+use Rattle.files.specs.Tests.{check_sound, ReadIs, writable_in_order}
 use Rattle.files.specs.Written.{read_writable, length_read, longest, largest-length}
 
 pub reading_is : (P : Profile) (s : List ℕ) (r : Reading) → check_of P s ≡ reading_outcome r → ReadIs P s r

@@ -16,7 +16,7 @@ use Rattle.meaning.specs.Filter.{Edge, inside, comes_before, same_place}
 use Rattle.meaning.specs.Fault.{leaves}
 use Rattle.refusals.specs.Refusals.{Outcome, refused}
 use Rattle.refusals.proofs.Laws.{numbers_below, first-behind}
-use Rattle.layout.specs.declared.Profile.{Profile}
+use Rattle.layout.specs.declared.profile.Profile.{Profile}
 use Rattle.layout.specs.declared.edge.Placed.{Placed}
 use Rattle.layout.specs.Layout.{fault_colour, edge_bits, edges_begin, file_bits, bytes_for, file_length}
 use Rattle.layout.specs.Contents.{states_in, labels_in, count_in, colours_in, values, placed_at, placed_from, placed_in, edge_at, length_in}

@@ -5,7 +5,7 @@ use Rattle.std.specs.Prelude.{ℕ, ◌*◌, ◌^◌, Bool, true, not, ◌&&◌, 
 use Rattle.std.proofs.Math.Option.{none}
 use Rattle.meaning.specs.Filter.{Filter, states}
 use Rattle.refusals.specs.Refusals.{Outcome, accepted, Test, test, first_of, room_test}
-use Rattle.layout.specs.declared.Profile.{Profile}
+use Rattle.layout.specs.declared.profile.Profile.{Profile}
 use Rattle.layout.specs.declared.Reading.{Reading}
 use Rattle.layout.specs.Layout.{fault_colour, header_bits, bytes_for, length_of}
 use Rattle.layout.specs.Contents.{states_in, labels_in, start_in, count_in, colours_in, placed_in, length_in, filling_in}

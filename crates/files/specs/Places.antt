@@ -12,7 +12,7 @@ use Rattle.meaning.specs.Filter.{Edge}
 use Rattle.meaning.specs.Fault.{leaves}
 use Rattle.refusals.specs.Refusals.{Outcome, accepted, refused, Test, first_of, onward}
 use Rattle.refusals.proofs.Laws.{Passed, numbers_below}
-use Rattle.layout.specs.declared.Profile.{Profile}
+use Rattle.layout.specs.declared.profile.Profile.{Profile}
 use Rattle.layout.specs.declared.Field.{Field}
 use Rattle.layout.specs.declared.edge.Placed.{Placed}
 use Rattle.layout.specs.Layout.{fault_colour, edge_bits, edges_begin}

@@ -12,7 +12,7 @@ use Rattle.meaning.specs.Fault.{leaves, stays, fault_stays}
 use Rattle.refusals.specs.declared.Refusal.{Refusal}
 use Rattle.refusals.specs.Refusals.{accepted, refusal_outcome, onward, room_test}
 use Rattle.refusals.proofs.Laws.{first_accepted, first_passed, first-onward}
-use Rattle.layout.specs.declared.Profile.{Profile}
+use Rattle.layout.specs.declared.profile.Profile.{Profile}
 use Rattle.layout.specs.declared.Reading.{Reading}
 use Rattle.layout.specs.Layout.{fault_colour, header_bits, bytes_for, edges_begin, length_of}
 use Rattle.layout.specs.Contents.{states_in, labels_in, start_in, count_in, colours_in, placed_from, placed_in, values, edges_from, edges_in, filter_in, length_in, filling_in}

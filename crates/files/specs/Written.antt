@@ -15,18 +15,18 @@ use Rattle.bits.proofs.Reading.{field_lt}
 use Rattle.pen.proofs.Runs.{fields-append, length_fields, total-append, total-replicate, read_written, write_read, fit_append, fit_run, run_at, length_puts, puts_append}
 use Rattle.pen.proofs.Parts.{cover}
 use Rattle.bits.proofs.Parts.{bytes-replicate}
-use Rattle.meaning.specs.Filter.{Edge, Filter, states, inside, each, in_order}
-use Rattle.layout.specs.declared.Profile.{Profile}
+use Rattle.meaning.specs.Filter.{Edge, Filter, states, inside, each}
+use Rattle.layout.specs.declared.profile.Profile.{Profile}
 use Rattle.layout.specs.Layout.{large, pocket, header_bits, edge_bits, edges_begin, file_bits, bytes_for, file_length, fill_bits, edge_widths, file_widths, flat, file_values, length_of, written, threes, from_lists}
 use Rattle.layout.specs.Code.{Usable}
 use Rattle.layout.specs.Contents.{states_in, labels_in, start_in, count_in, colours_in, placed_in, values, edges_from, edges_in, filter_in, length_in, filling_in}
-use Rattle.files.specs.Files.{check_of, all_below}
-use Rattle.refusals.specs.Refusals.{accepted, laid}
+use Rattle.files.specs.Files.{all_below}
+use Rattle.refusals.specs.Refusals.{laid}
 use Rattle.layout.proofs.Bounds.{states_low, labels_low, states_fit, labels_fit, states-pow, labels_pow}
 use Rattle.layout.proofs.EdgeLists.{fields_edges, length_edges, length_widths, total_edges, length-flat, threes-flat}
 use Rattle.meaning.specs.Cases.{and_left, and_right}
 use Rattle.edges.proofs.Tests.{listed-values, clear_elsewhere}
-use Rattle.files.specs.Tests.{Sound, check_sound, below_at, Writable, writable_edges, writable_in_order, FaultAbove, above_stays}
+use Rattle.files.specs.Tests.{Sound, below_at, Writable, writable_edges, FaultAbove, above_stays}
 
 -- ---- the fields of a file
 

@@ -19,7 +19,7 @@ use Rattle.meaning.specs.Reduced.{has, name_of, edge', merged, reduce, reduced}
 use Rattle.meaning.specs.Listing.{cells_max, listed-length}
 use Rattle.meaning.proofs.Demand.{reduced-in_order, reduced-bound, reduced_edges}
 use Rattle.meaning.proofs.Staying.{reduced-stays}
-use Rattle.layout.specs.declared.Profile.{Profile}
+use Rattle.layout.specs.declared.profile.Profile.{Profile}
 use Rattle.layout.specs.Layout.{fault_colour, edge_bits, edges_begin, file_bits, bytes_for, file_length, length_of, written}
 use Rattle.layout.specs.Code.{Usable}
 use Rattle.layout.specs.Contents.{filter_in}

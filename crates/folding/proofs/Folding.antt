@@ -22,8 +22,7 @@ use Rattle.meaning.specs.Classes.{Task, Classes, initial, groups, reduction, cla
 use Rattle.meaning.proofs.Traced.{In, opt}
 use Rattle.meaning.proofs.Demand.{fits, start_live, target-live, in_live, good}
 use Rattle.meaning.specs.Reduced.{live, task_over, task, reduce, merged_over, merged, reduced, class_list, distinct}
-use Rattle.layout.specs.declared.Profile.{Profile}
-use Rattle.layout.specs.Code.{Usable}
+use Rattle.layout.specs.declared.profile.Profile.{Profile}
 use Rattle.layout.specs.declared.Reading.{Reading}
 use Rattle.layout.specs.Layout.{length_of}
 use Rattle.layout.specs.Contents.{filter_in}
@@ -42,7 +41,7 @@ use Rattle.merging.specs.Merged as merging
 use Rattle.storing.specs.Stored.{Packable}
 use Rattle.folding.proofs.Accepted.{reduced_writable, file_shorter}
 
-module _ (Q : Profile) (usable : Usable Q) (narrow : Q.labels ≤ 6) (s : List ℕ) (r : Reading) (is : ReadIs Q s r) where
+module _ (Q : Profile) (narrow : Q.labels ≤ 6) (s : List ℕ) (r : Reading) (is : ReadIs Q s r) where
   abbrev F : Filter
   F = filter_in Q s
 
@@ -61,19 +60,19 @@ module _ (Q : Profile) (usable : Usable Q) (narrow : Q.labels ≤ 6) (s : List �
   start_is = is.start_is
 
   writable : Writable Q F
-  writable = read_writable Q usable s is.sound
+  writable = read_writable Q Q.usable s is.sound
 
   ok : in_order F ≡ true
   ok = writable_in_order Q F writable
 
   few : states F ≤ 256
-  few = rw (length-filter Q s) (states_high Q usable s)
+  few = rw (length-filter Q s) (states_high Q Q.usable s)
 
   pub few_states : n ≤ 256
   few_states = rw states_are few
 
   pub few_labels : r.labels ≤ 64
-  few_labels = rw is.labels_are (le_trans (labels_fit Q usable s) (pow_mono {j = 6} narrow))
+  few_labels = rw is.labels_are (le_trans (labels_fit Q Q.usable s) (pow_mono {j = 6} narrow))
 
   pub start_state : r.start < n
   start_state = let b = (fits F few ok).begins in omega (arith, states_are, start_is)
@@ -81,7 +80,7 @@ module _ (Q : Profile) (usable : Usable Q) (narrow : Q.labels ≤ 6) (s : List �
   module _ (T : Table) (colours : List ℕ) (by-table : look T ≡ edge F) (by-colours : at colours ≡ colour F) where
     pub within : Within (look T) n r.labels
     within a y t e =
-        let v = look-within Q usable s _ T is.answer by-table a y t e in
+        let v = look-within Q Q.usable s _ T is.answer by-table a y t e in
         (omega (arith, v.0, is.states_are), omega (arith, v.1, is.labels_are), omega (arith, v.2, is.states_are))
 
     -- who takes part, as the code finds it
@@ -143,7 +142,6 @@ module _ (Q : Profile) (usable : Usable Q) (narrow : Q.labels ≤ 6) (s : List �
       pub foldable : (answer list : ℕ) → Bytes s → Rows T n → length colours ≡ 256 → length names ≡ 256 → length s ≤ answer → n ≤ list →
           merging.Foldable Q T colours names r answer list
       foldable answer list bytes rows lc ln la ll = record {
-        usable = usable;
         labels = few_labels;
         begins = start_state;
         begins_in = seat r.start start_state (subst (λ (a : ℕ). live F a ≡ true) (sym start_is) (start_live F few ok));
@@ -156,8 +154,8 @@ module _ (Q : Profile) (usable : Usable Q) (narrow : Q.labels ≤ 6) (s : List �
         named = named ln;
         list_room = ll;
         answer_room = subst (λ (G : Filter). Packable Q G answer) (sym filter_is)
-            (writable_write Q (reduced F) answer (reduced_writable Q usable F writable)
-            (omega (arith, file_shorter Q usable s bytes _ is.answer)));
+            (writable_write Q (reduced F) answer (reduced_writable Q Q.usable F writable)
+            (omega (arith, file_shorter Q Q.usable s bytes _ is.answer)));
       }
 
       pub list_is : tab n (new_number (take n names)) ≡ class_list F

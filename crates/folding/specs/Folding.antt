@@ -5,11 +5,10 @@ use Rattle.meaning.specs.Filter.{Filter, states}
 use Rattle.meaning.specs.Trace.{edge}
 use Rattle.meaning.specs.Reduced.{reduce, reduced, class_list, distinct}
 use Rattle.refusals.specs.Refusals.{Outcome, accepted, laid}
-use Rattle.layout.specs.declared.Profile.{Profile}
+use Rattle.layout.specs.declared.profile.Profile.{Profile}
 use Rattle.layout.specs.declared.Reading.{Reading}
 use Rattle.layout.specs.Layout.{length_of, written}
 use Rattle.layout.specs.Contents.{filter_in}
-use Rattle.layout.specs.Code.{Usable}
 use Rattle.files.specs.Files.{reading_outcome, check_of}
 use Rattle.table.specs.Table.{Table, look, Rows}
 use Rattle.folding.specs.declared.Counts.{Counts}
@@ -35,7 +34,6 @@ both room = room.answer ∷ room.classes ∷ []
 
 -- What is asked for reducing an accepted file: its edges are in the table, a row has 64 labels, and the rooms are long enough.
 pub record Foldable (P : Profile) (file : List ℕ) (r : Reading) (T : Table) (room : Rooms) : Type 0 where
-  pub usable : Usable P
   pub labels≤6 : P.labels ≤ 6
   pub answer : check_of P file ≡ reading_outcome r
   pub edges : look T ≡ edge (filter_in P file)

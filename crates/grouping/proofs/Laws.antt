@@ -116,9 +116,6 @@ module _ (clashes : ℕ → ℕ → Bool) (P G : List ℕ) (c s : ℕ) where
         said : (g : ℕ) → contains (set marks (group / 64) x) g ≡ (eqb group g || contains marks g)
         said = contains_with marks group x (omega (arith, r.long)) more
 
-    pub marked_all : t ≡ s → Marks clashes P G c s marks s
-    marked_all e = subst (Marks clashes P G c s marks) e r.marked
-
   -- the groups before s are all below it, so that s itself is free
   own_free : ((t : ℕ) → t < s → at P t ≡ c → at G t ≤ t) → taken clashes P G c s s s ≡ false
   unfolding taken
@@ -238,6 +235,3 @@ module _ (clashes : ℕ → ℕ → Bool) (P : List ℕ) (c : ℕ) where
       (λ q. let k : s ≤ u = omega (arith, eqb-false s (suc u) q) in
       let before = grouped_skip G s u r k (omega arith) (λ x m b. miss x m (omega arith)) in
       rw (← add-one u) (grouped_other G u before (omega arith) (miss u k (omega arith))))
-
-  pub grouped_all : (G : List ℕ) (s n : ℕ) → Grouped clashes P c G s → s ≡ n → Grouped clashes P c G n
-  grouped_all G s n r e = subst (Grouped clashes P c G) e r

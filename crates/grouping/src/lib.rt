@@ -3,22 +3,12 @@
 
 ghost use Rattle.std.specs.Prelude.{◌≡◌, not, ◌≤◌, ◌<◌, length, replicate};
 ghost use Rattle.sets.specs.Sets.{contains};
-ghost use Rattle.table.specs.Table.{table};
 ghost use Rattle.conflicts.specs.Conflicts.{clash};
 ghost use Rattle.members.specs.Members.{Heads, Searched};
 ghost use Rattle.grouping.specs.Grouping.{Marking, Below, Marks, Grouped};
 
 use sets::Four;
-
-// The larger of two numbers.
-fn larger(a: usize, b: usize) -> usize
-    ensures { (a ≤ result) × (b ≤ result) }
-{
-    if a < b {
-        return b;
-    }
-    a
-}
+use table::Row;
 
 // Whether a group is not marked. From `top` on none is marked, which spares the look into the words for most.
 fn unmarked(words: &[u64; 4], top: usize, group: usize) -> bool
@@ -33,8 +23,7 @@ fn unmarked(words: &[u64; 4], top: usize, group: usize) -> bool
 
 // The groups of the members of class c before s that conflict with s.
 fn mark(
-    targets: &[u8],
-    labels: &[u64],
+    rows: &[Row],
     names: &[u16; 256],
     next: &[u16; 256],
     groups: &[u8; 256],
@@ -42,47 +31,46 @@ fn mark(
     c: usize,
     s: usize,
 ) -> Four
-    requires { Searched (table targets.now labels.now) names.now next.now n × Heads names.now n c
+    requires { Searched rows.now names.now next.now n × Heads names.now n c
         × Marking names.now groups.now n c s }
-    ensures { Marks (clash (table targets.now labels.now) names.now)
+    ensures { Marks (clash rows.now names.now)
         names.now groups.now c s result.words s }
 {
     let mut words: [u64; 4] = [0; 4];
     let mut top: usize = 0;
     let mut t = c;
     while t < s {
-        let group = arrays::wide_byte(groups[t]);
+        let group = usize::from(groups[t]);
         if unmarked(&words, top, group) {
-            if conflicts::conflict(targets, labels, names, t, s) {
+            if conflicts::conflict(rows, names, t, s) {
                 let w = group / 64;
                 words[w] = sets::with(words[w], group % 64);
-                top = larger(top, group + 1);
+                top = top.max(group + 1);
             }
         }
-        t = arrays::wide(next[t]);
+        t = usize::from(next[t]);
     }
     Four { words }
 }
 
 // The group of each member of class c, members taken in ascending order; other states keep 0.
 pub fn group(
-    targets: &[u8],
-    labels: &[u64],
+    rows: &[Row],
     names: &[u16; 256],
     next: &[u16; 256],
     n: usize,
     c: usize,
     into: &mut [u8; 256],
 )
-    requires { Searched (table targets.now labels.now) names.now next.now n × Heads names.now n c
+    requires { Searched rows.now names.now next.now n × Heads names.now n c
         × (into.old ≡ replicate 256 0) }
-    ensures { Grouped (clash (table targets.now labels.now) names.now)
+    ensures { Grouped (clash rows.now names.now)
         names.now c into.new n }
 {
     let mut s = c;
     while s < n {
-        let marks = mark(targets, labels, names, next, into, n, c, s);
+        let marks = mark(rows, names, next, into, n, c, s);
         into[s] = marks.smallest_missing() as u8;
-        s = arrays::wide(next[s]);
+        s = usize::from(next[s]);
     }
 }

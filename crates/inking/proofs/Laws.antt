@@ -13,11 +13,9 @@ use borrow.Author.Tests.{ltb-true}
 use Rattle.meaning.specs.Cases.{and_left, and_right}
 use Rattle.meaning.specs.Filter.{Edge, each}
 use Rattle.bits.specs.Bits.{put_field}
-use Rattle.bits.proofs.Writing.{length_put}
-use Rattle.pen.specs.declared.Pen.{Pen}
-use Rattle.pen.specs.Runs.{put_fields, inked, Fit}
+use Rattle.pen.specs.Runs.{put_fields, Fit}
 use Rattle.pen.proofs.Runs.{puts_append}
-use Rattle.layout.specs.declared.Profile.{Profile}
+use Rattle.layout.specs.declared.profile.Profile.{Profile}
 use Rattle.layout.specs.Layout.{edges_begin, file_bits, fill_bits, edge_widths, flat}
 use Rattle.layout.specs.Code.{Usable, edge_of}
 use Rattle.layout.proofs.EdgeLists.{flat_append, total_edges, length_widths, length-flat}
@@ -35,10 +33,6 @@ use Rattle.drawing.specs.Exact.{read_sound}
 use Rattle.surveying.specs.declared.Survey.{Survey}
 use Rattle.surveying.specs.Surveys.{Known}
 use Rattle.inking.specs.Inking.{filter_read}
-
-pub inked-length : (s : List ℕ) (pen : Pen) → length (inked s pen) ≡ length s
-unfolding inked
-inked-length s pen = length_put s (pen.at * 8) pen.bits pen.held
 
 -- ---- lists of edges
 

@@ -4,9 +4,8 @@ use Rattle.std.specs.Prelude.{ℕ, ◌/◌, ◌≤◌, List, length}
 use Rattle.meaning.specs.Filter.{Filter}
 use Rattle.pen.specs.declared.Pen.{Pen}
 use Rattle.pen.specs.Runs.{Ready, place_of}
-use Rattle.layout.specs.declared.Profile.{Profile}
+use Rattle.layout.specs.declared.profile.Profile.{Profile}
 use Rattle.layout.specs.Layout.{length_of}
-use Rattle.layout.specs.Code.{Usable}
 use Rattle.files.specs.Tests.{Writable}
 use Rattle.drawing.specs.Profile.{filter_of}
 use Rattle.drawing.specs.Reader.{Read, colours_of, edges_of, read_of}
@@ -19,14 +18,12 @@ filter_read r = filter_of (colours_of r) (edges_of r)
 
 -- A text of the profile with its survey, whose filter a file can hold, and a room that holds the file.
 pub record Inkable (P : Profile) (text : List ℕ) (s : Survey) (room : List ℕ) : Type 0 where
-  pub usable : Usable P
   pub known : Known text s
   pub writable : Writable P (filter_read (read_of text))
   pub roomy : length_of P (filter_read (read_of text)) ≤ length room
 
 -- A pen that has come to the colours.
 pub record Begun (P : Profile) (text : List ℕ) (s : Survey) (pen : Pen) : Type 0 where
-  pub usable : Usable P
   pub known : Known text s
   pub writable : Writable P (filter_read (read_of text))
   pub ready : Ready pen
@@ -34,7 +31,6 @@ pub record Begun (P : Profile) (text : List ℕ) (s : Survey) (pen : Pen) : Type
 
 -- The part of a room from a bit on, for the edges.
 pub record Placeable (P : Profile) (text : List ℕ) (s : Survey) (bit : ℕ) (room : List ℕ) : Type 0 where
-  pub usable : Usable P
   pub known : Known text s
   pub writable : Writable P (filter_read (read_of text))
   pub begin : bit ≤ 2096

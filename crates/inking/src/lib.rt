@@ -34,13 +34,11 @@ fn put_colours(p: Profile, room: &mut [u8], begun: Pen, text: &[u8], s: Survey)
     let n = s.states;
     let mut pen = begun;
     let mut at = 10;
-    let mut i = 0;
-    while i < n {
+    for _ in 0..n {
         let state = spelling::number_at(text, at);
         let colour = spelling::number_at(text, state.end + 8);
         pen = pen::push(room, pen, p.colour, colour.value as u64);
         at = colour.end + 3;
-        i += 1;
     }
     pen::finish(room, pen);
 }
@@ -64,12 +62,10 @@ fn put_all(p: Profile, part: &mut [u8], bit: usize, text: &[u8], s: Survey)
     let e = s.edges;
     let mut pen = pen::begin(part, bit);
     let mut at = s.begin;
-    let mut i = 0;
-    while i < e {
+    for _ in 0..e {
         let line = statements::line_at(text, at);
         pen = layout::edge::push(p, part, pen, line.edge);
         at = line.end;
-        i += 1;
     }
     fill(part, pen, layout::fill_bits(p, s.states, e));
 }

@@ -14,15 +14,16 @@ use Rattle.meaning.specs.Trace.{shown}
 use Rattle.meaning.specs.Reduced.{reduce, reduced, class_list, distinct}
 use Rattle.refusals.specs.Refusals.{accepted, laid}
 use Rattle.refusals.proofs.Laws.{first_accepted, onward_accepted, laid_front, promise_laid, promise_one}
-use Rattle.layout.specs.declared.Profile.{Profile}
+use Rattle.layout.specs.declared.profile.Profile.{Profile}
 use Rattle.layout.specs.Layout.{length_of, written}
 use Rattle.layout.specs.Contents.{labels_in, filter_in}
 use Rattle.layout.specs.Code.{Usable}
 use Rattle.files.specs.Files.{holdable, numbers_in, check_of}
 use Rattle.files.specs.Tests.{check_sound, sound_check, Writable, writable_held, FaultAbove, held_writable}
 use Rattle.files.specs.Written.{Holds, holds-filter, length-written, written-holds, written_sound, length_colours, length-edges_in, length_read, read_writable, read_back}
-use Rattle.packing.specs.declared.Packed.{Packed}
-use Rattle.packing.specs.declared.Packed.TheVariants as packed
+use Rattle.packing.specs.Promise.{Packed}
+use Rattle.std.specs.Prelude.{Result, Ok}
+use Rattle.refusals.specs.declared.Refusal.{Refusal}
 use Rattle.packing.proofs.Unique.{packed_one}
 use Rattle.tracing.specs.declared.Traced.{Traced}
 use Rattle.tracing.specs.Tracing.{trace_of}
@@ -31,7 +32,6 @@ use Rattle.tracing.proofs.Unique.{traced_one}
 use Rattle.folding.specs.declared.Counts.{Counts}
 use Rattle.folding.specs.Folding.{Rooms}
 use Rattle.folding.proofs.Accepted.{reduced_writable}
-use Rattle.reduction.specs.declared.Reduced.TheVariants as answers
 use Rattle.reduction.specs.Promise.{ReducePromise}
 use Rattle.converting.specs.Promise.{convert_tests, convert_of, converted, ConvertPromise}
 use Rattle.demands.specs.Demand3.{reduced_file, Shows, reduced_file-holds, reduced_file_accepted, answered, answer_is}
@@ -137,7 +137,7 @@ unfolding written
 written-bytes P F = bytes_puts _ 0 _ _ (bytes-replicate (length_of P F) 0 (omega arith))
 
 module _ (From To : Profile) (ok : Usable From) (ok' : Usable To) (above : FaultAbove From To) (file : List ℕ) (n : ℕ) (room left : List ℕ)
-    (there : ConvertPromise From To file room (packed.Accepted n) left) where
+    (there : ConvertPromise From To file room (Ok n) left) where
   -- the first n bytes of the room are the other file
   pub is_other : take n left ≡ converted From To file
   is_other =
@@ -146,7 +146,7 @@ module _ (From To : Profile) (ok : Usable From) (ok' : Usable To) (above : Fault
       ∙ laid_front (converted From To file) room n (converted-length From To ok ok' above file got.checks.0 got.checks.1 got.fits ∙ got.length_is)
 
 module _ (From To : Profile) (ok : Usable From) (ok' : Usable To) (above : FaultAbove From To) (file : List ℕ) (bytes : Bytes file) (n : ℕ) (room left : List ℕ)
-    (there : ConvertPromise From To file room (packed.Accepted n) left) where
+    (there : ConvertPromise From To file room (Ok n) left) where
   got : Converts From To file n
   got = converts From To file (length room) n (sym there.answer)
 
@@ -156,16 +156,16 @@ module _ (From To : Profile) (ok : Usable From) (ok' : Usable To) (above : Fault
   -- if a file is converted into a room, and the first n bytes of the room are converted back into a room that is long enough, the file's
   -- length is answered and that room begins with the file
   pub convert_and_back : (back back' : List ℕ) (r : Packed) → length file ≤ length back → ConvertPromise To From (take n left) back r back' →
-      (r ≡ packed.Accepted (length file)) × (back' ≡ laid file back)
+      (r ≡ Ok (length file)) × (back' ≡ laid file back)
   convert_and_back back back' r l p =
       let q : ConvertPromise To From (converted From To file) back r back' = subst (λ (s : List ℕ). ConvertPromise To From s back r back') first p in
       let due = back_accepted From To ok ok' above file got.checks.0 got.checks.1 got.fits (length back) l in (
-        packed_one r (packed.Accepted (length file)) (q.answer ∙ due),
+        packed_one r (Ok (length file)) (q.answer ∙ due),
         cc (promise_laid q due) ∙ ap (λ (s : List ℕ). laid s back) (there_and_back From To ok ok' above file got.checks.0 got.checks.1 got.fits bytes),
       )
 
   -- a trace of the file and one of the first n bytes of the room, into the same room, answer the same and leave the same colours
-  pub convert_then_trace : (ys colours : List ℕ) (r r' : Traced) (here here' : List ℕ) → TracePromise From file ys colours r here →
+  pub convert_then_trace : (ys colours : List ℕ) (r r' : Result Traced Refusal) (here here' : List ℕ) → TracePromise From file ys colours r here →
       TracePromise To (take n left) ys colours r' here' → (r ≡ r') × (here ≡ here')
   convert_then_trace ys colours r r' here here' p p' =
       let q : TracePromise To (converted From To file) ys colours r' here' = subst (λ (s : List ℕ). TracePromise To s ys colours r' here') first p' in
@@ -176,15 +176,15 @@ module _ (From To : Profile) (ok : Usable From) (ok' : Usable To) (above : Fault
 
   -- a file reduced and then converted, and the same file converted and then reduced: the two files have the same bytes, both ways give the same
   -- counts, and into the same class list the same classes
-  pub reduce_and_convert : (found kept : Rooms) (c : Counts) → ReducePromise From file found (answers.Accepted c) kept →
-      (k : ℕ) (room₁ left₁ : List ℕ) → ConvertPromise From To (take c.length kept.answer) room₁ (packed.Accepted k) left₁ →
-      (found₂ kept₂ : Rooms) (d : Counts) → ReducePromise To (take n left) found₂ (answers.Accepted d) kept₂ →
+  pub reduce_and_convert : (found kept : Rooms) (c : Counts) → ReducePromise From file found (Ok c) kept →
+      (k : ℕ) (room₁ left₁ : List ℕ) → ConvertPromise From To (take c.length kept.answer) room₁ (Ok k) left₁ →
+      (found₂ kept₂ : Rooms) (d : Counts) → ReducePromise To (take n left) found₂ (Ok d) kept₂ →
       (take k left₁ ≡ take d.length kept₂.answer) × (c.states ≡ d.states) × (c.colours ≡ d.colours) × (c.rounds ≡ d.rounds)
       × (found.classes ≡ found₂.classes → kept.classes ≡ kept₂.classes)
   reduce_and_convert found kept c hr k room₁ left₁ hc found₂ kept₂ d hd =
       let here = answered From file found kept c hr in
-      let hc' : ConvertPromise From To (reduced_file From file) room₁ (packed.Accepted k) left₁ = subst (λ (s : List ℕ). ConvertPromise From To s room₁ (packed.Accepted k) left₁) (answer_is From ok file found kept c bytes here) hc in
-      let hd' : ReducePromise To (converted From To file) found₂ (answers.Accepted d) kept₂ = subst (λ (s : List ℕ). ReducePromise To s found₂ (answers.Accepted d) kept₂) first hd in
+      let hc' : ConvertPromise From To (reduced_file From file) room₁ (Ok k) left₁ = subst (λ (s : List ℕ). ConvertPromise From To s room₁ (Ok k) left₁) (answer_is From ok file found kept c bytes here) hc in
+      let hd' : ReducePromise To (converted From To file) found₂ (Ok d) kept₂ = subst (λ (s : List ℕ). ReducePromise To s found₂ (Ok d) kept₂) first hd in
       let there = answered To (converted From To file) found₂ kept₂ d hd' in
       let same = converted-holds From To ok ok' above file got.checks.0 got.checks.1 got.fits in (
         is_other From To ok ok' above (reduced_file From file) k room₁ left₁ hc'

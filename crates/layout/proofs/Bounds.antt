@@ -1,49 +1,21 @@
 -- Sizes that the code meets: what the widths of a usable profile bound, and that a file's length is the least.
 -- Assumes nothing.
-use mathlib.Core.Path.{◌≡◌, refl}
-use mathlib.Core.Bool.{Bool, true, ◌&&◌}
 use mathlib.Core.List.{List}
 use Prim.Native.Nat.{ℕ, ◌+◌, ◌*◌, ◌^◌, ◌≤◌, ◌<◌}
 use native.Mathlib.Nat.{mul-le-mul, lt_of_lt_of_le}
 use native.Mathlib.Omega.{arith}
-use lib.Dec.{leb, ltb}
 use lib.Pow.{pow_mono}
-use borrow.Author.Tests.{leb-true, ltb-true}
-use Rattle.meaning.specs.Cases.{impossible, and_left, and_right}
 use Rattle.bits.proofs.Reading.{field_lt}
-use Rattle.layout.specs.declared.Profile.{Profile}
-use Rattle.layout.specs.declared.FaultColour.TheVariants as fault
+use Rattle.layout.specs.declared.profile.Profile.{Profile}
 use Rattle.layout.specs.Layout.{large, pocket, header_bits, edge_bits, edges_begin, file_bits, bytes_for, file_length, fill_bits}
 use Rattle.layout.specs.Code.{Usable}
 use Rattle.layout.specs.Contents.{states_in, labels_in, start_in, count_in}
 
--- what makes widths usable, as one test of both files' widths
-abbrev fits : Profile → Bool
-fits P = leb P.states 8 && (leb P.labels 8 && (leb P.colour 8 && (leb P.start 16 && (leb P.edges 15 && (leb P.states P.start && ltb (P.states + P.labels) P.edges)))))
-
-usable : (P : Profile) → fits P ≡ true → ((c : ℕ) → P.fault ≡ fault.Is c → (P.colour ≡ 6) × (c ≡ 63)) → Usable P
-usable P h ones =
-    let l = and_right (leb P.states 8) _ h in
-    let c = and_right (leb P.labels 8) _ l in
-    let s = and_right (leb P.colour 8) _ c in
-    let e = and_right (leb P.start 16) _ s in
-    let f = and_right (leb P.edges 15) _ e in
-    record {
-      states≤ = leb-true _ _ (and_left _ _ h);
-      labels≤ = leb-true _ _ (and_left _ _ l);
-      colour≤ = leb-true _ _ (and_left _ _ c);
-      start≤ = leb-true _ _ (and_left _ _ s);
-      edges≤ = leb-true _ _ (and_left _ _ e);
-      start_fits = leb-true _ _ (and_left _ _ f);
-      edges_fit = ltb-true _ _ (and_right (leb P.states P.start) _ f);
-      six_ones = ones;
-    }
-
 pub large_usable : Usable large
-large_usable = usable large refl (λ c e. (refl, cc))
+large_usable = large.usable
 
 pub pocket_usable : Usable pocket
-pocket_usable = usable pocket refl (λ c e. impossible cc)
+pocket_usable = pocket.usable
 
 -- ---- the length is the least whole number of bytes that holds the bits
 

@@ -18,7 +18,7 @@ use Rattle.pen.proofs.Runs.{puts_append}
 use Rattle.bits.proofs.Parts.{store_more}
 use Rattle.meaning.specs.Cases.{and_left, and_right}
 use Rattle.meaning.specs.Filter.{Edge, each}
-use Rattle.layout.specs.declared.Profile.{Profile}
+use Rattle.layout.specs.declared.profile.Profile.{Profile}
 use Rattle.layout.specs.Layout.{edge_bits, edge_widths, flat, put_edges, threes}
 use Rattle.layout.specs.declared.edge.Edge as layout
 use Rattle.layout.specs.declared.edge.Placed.{Placed}

@@ -1,3 +1,4 @@
 pub mod Bounds
 pub mod EdgeLists
 pub mod Headers
+pub mod Walks

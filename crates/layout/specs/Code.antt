@@ -1,31 +1,21 @@
 -- What the code's own types stand for, and the widths that it can use. No public call's promise speaks of these.
 -- Assumes nothing.
-use Rattle.std.specs.Prelude.{ℕ, ◌+◌, ◌≤◌, ◌<◌, ◌^◌, ◌≡◌, List, get_or}
+use Rattle.std.specs.Prelude.{ℕ, ◌+◌, ◌≤◌, ◌<◌, ◌^◌, List, get_or}
 use Rattle.meaning.specs.Filter as meaning
 use Rattle.pen.specs.Runs.{Fit, Ready, place_of}
 use Rattle.pen.specs.declared.Pen.{Pen}
-use Rattle.layout.specs.declared.Profile.{Profile}
-use Rattle.layout.specs.declared.FaultColour.TheVariants as fault
+use Rattle.layout.specs.declared.profile.Profile.{Profile}
+use Rattle.layout.specs.Widths as widths
 use Rattle.layout.specs.declared.edge.Edge.{Edge}
 use Rattle.layout.specs.declared.edge.Placed.{Placed}
 use Rattle.layout.specs.Layout.{header_widths, header_values}
 
--- Widths that the code can use: states, labels and colours are bytes, and a start and a count of edges fit their fields, for a
--- start is below n, and e is at most n times m. With at most 15 bits for e a bit's position has at most six digits. A fault colour is
--- six ones: the code looks for these.
-pub record Usable (P : Profile) : Type 0 where
-  pub states≤ : P.states ≤ 8
-  pub labels≤ : P.labels ≤ 8
-  pub colour≤ : P.colour ≤ 8
-  pub start≤ : P.start ≤ 16
-  pub edges≤ : P.edges ≤ 15
-  pub start_fits : P.states ≤ P.start
-  pub edges_fit : P.states + P.labels < P.edges
-  pub six_ones : (c : ℕ) → P.fault ≡ fault.Is c → (P.colour ≡ 6) × (c ≡ 63)
+-- The widths of a profile are such that the code can use.
+abbrev pub Usable : Profile → Type 0
+Usable P = widths.Usable P.states P.labels P.start P.edges P.colour P.fault
 
 -- What is asked for writing the four numbers before the colours.
 pub record Heading (P : Profile) (n m start e : ℕ) : Type 0 where
-  pub usable : Usable P
   pub fit : Fit (header_widths P) (header_values n m start e)
   pub states : 1 ≤ n
   pub labels : 1 ≤ m
@@ -49,7 +39,6 @@ pub record Small (e : Edge) : Type 0 where
 
 -- What is asked for writing an edge behind what a pen holds: its parts fit their widths.
 pub record Pushable (P : Profile) (pen : Pen) (e : Edge) : Type 0 where
-  pub usable : Usable P
   pub ready : Ready pen
   pub near : place_of pen < 2 ^ 63
   pub source : e.source < 2 ^ P.states

@@ -4,7 +4,7 @@ use Rattle.std.specs.Prelude.{ℕ, zero, suc, ◌+◌, ◌*◌, List, [], ◌∷
 use Rattle.bits.specs.Bits.{field}
 use Rattle.pen.specs.Runs.{fields}
 use Rattle.meaning.specs.Filter.{Edge, Filter}
-use Rattle.layout.specs.declared.Profile.{Profile}
+use Rattle.layout.specs.declared.profile.Profile.{Profile}
 use Rattle.layout.specs.declared.Field.{Field}
 use Rattle.layout.specs.declared.edge.Placed.{Placed}
 use Rattle.layout.specs.declared.Reading.{Reading}

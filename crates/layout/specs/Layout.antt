@@ -2,25 +2,25 @@
 -- pocket profile", "A fault stays a fault").
 -- Assumes nothing.
 use Rattle.std.specs.Prelude.{ℕ, zero, suc, ◌+◌, ◌*◌, ◌-◌, ◌/◌, List, [], ◌∷◌, ◌++◌, length, replicate}
+use Rattle.std.specs.Prelude as rust
 use Rattle.std.proofs.Math.Option.{Option, none, some}
 use Rattle.pen.specs.Runs.{put_fields}
 use Rattle.meaning.specs.Filter.{Edge, Filter, states}
-use Rattle.layout.specs.declared.Profile.{Profile}
-use Rattle.layout.specs.declared.FaultColour.{FaultColour}
-use Rattle.layout.specs.declared.FaultColour.TheVariants as fault
+use Rattle.layout.specs.declared.profile.Profile.{Profile}
+use Rattle.layout.specs.Widths.{large_usable, pocket_usable}
 
 -- The large file: its widths in bits, of the fields for states, labels, start and edges, and of a colour; and its fault colour, 63.
 abbrev pub large : Profile
-large = record { states = 8; labels = 6; start = 8; edges = 15; colour = 6; fault = fault.Is 63 }
+large = record { states = 8; labels = 6; start = 8; edges = 15; colour = 6; fault = rust.Some 63; usable = large_usable }
 
 -- The pocket file. Its colours end at 15, and none of them is a fault.
 abbrev pub pocket : Profile
-pocket = record { states = 4; labels = 3; start = 4; edges = 8; colour = 4; fault = fault.None }
+pocket = record { states = 4; labels = 3; start = 4; edges = 8; colour = 4; fault = rust.None; usable = pocket_usable }
 
 -- The colour that the code's value names, if it names one.
-abbrev pub colour_of : FaultColour → Option ℕ
-colour_of fault.None = none
-colour_of (fault.Is colour) = some colour
+abbrev pub colour_of : rust.Option ℕ → Option ℕ
+colour_of rust.None = none
+colour_of (rust.Some colour) = some colour
 
 -- The fault colour of a profile, if it has one.
 abbrev pub fault_colour : Profile → Option ℕ

@@ -3,13 +3,12 @@ ghost use Rattle.std.specs.Prelude.{◌≡◌, ◌∷◌, [], ◌-◌};
 ghost use Rattle.pen.specs.Runs.{put_fields, Drawn};
 ghost use Rattle.layout.specs.Layout.{header_widths, header_values};
 ghost use Rattle.layout.specs.Contents.{reading_in};
-ghost use Rattle.layout.specs.Code.{Usable, Heading};
+ghost use Rattle.layout.specs.Code.{Heading};
 
 use crate::{Profile, Reading};
 use pen::Pen;
 
 pub fn read(p: Profile, file: &[u8]) -> Reading
-    requires { Usable p }
     ensures { result ≡ reading_in p file.now }
 {
     let at_start = p.states + p.labels;

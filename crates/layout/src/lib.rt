@@ -4,30 +4,14 @@
 
 pub mod edge; // one edge, read or written
 pub mod header; // the four numbers before the colours
+mod profile; // the kinds of file
 
 ghost use Rattle.std.specs.Prelude.{◌≡◌, ◌≤◌, ◌^◌};
 ghost use Rattle.bits.specs.Bits.{put_field};
-ghost use Rattle.layout.specs.Layout.{large, pocket, header_bits, edge_bits, edges_begin, file_bits, fill_bits, bytes_for};
+ghost use Rattle.layout.specs.Layout.{header_bits, edge_bits, edges_begin, file_bits, fill_bits, bytes_for};
 ghost use Rattle.layout.specs.Contents.{states_in, colour_at};
-ghost use Rattle.layout.specs.Code.{Usable};
 
-// The colour that no edge may leave, for it shuts the drive down; or that a file has none.
-#[derive(Clone, Copy)]
-pub enum FaultColour {
-    None,
-    Is(usize),
-}
-
-// The widths in bits of a file's fields: states, labels, start, edges, and one colour; and the fault colour.
-#[derive(Clone, Copy)]
-pub struct Profile {
-    pub states: usize,
-    pub labels: usize,
-    pub start: usize,
-    pub edges: usize,
-    pub colour: usize,
-    pub fault: FaultColour,
-}
+pub use profile::{Format, Large, Pocket, Profile};
 
 // A field and its place: in a file the position of its first bit, in a list the index of its edge.
 #[derive(Clone, Copy)]
@@ -45,56 +29,27 @@ pub struct Reading {
     pub edges: usize,
 }
 
-pub fn large() -> Profile
-    ensures { result ≡ large }
-{
-    Profile {
-        states: 8,
-        labels: 6,
-        start: 8,
-        edges: 15,
-        colour: 6,
-        fault: FaultColour::Is(63),
-    }
-}
-
-// The file for the entry model's board of sixteen states.
-pub fn pocket() -> Profile
-    ensures { result ≡ pocket }
-{
-    Profile {
-        states: 4,
-        labels: 3,
-        start: 4,
-        edges: 8,
-        colour: 4,
-        fault: FaultColour::None,
-    }
-}
-
 pub fn header_bits(p: Profile) -> usize
-    requires { Usable p }
     ensures { (result ≡ header_bits p) × (result ≤ 48) }
 {
     p.states + p.labels + p.start + p.edges
 }
 
 pub fn edge_bits(p: Profile) -> usize
-    requires { Usable p }
     ensures { (result ≡ edge_bits p) × (result ≤ 24) }
 {
     p.states + p.labels + p.states
 }
 
 pub fn edges_begin(p: Profile, n: usize) -> usize
-    requires { Usable p × (n ≤ 256) }
+    requires { n ≤ 256 }
     ensures { (result ≡ edges_begin p n) × (result ≤ 2096) }
 {
     header_bits(p) + p.colour * n
 }
 
 pub fn file_bits(p: Profile, n: usize, e: usize) -> usize
-    requires { Usable p × (n ≤ 256) × (e ≤ 65536) }
+    requires { (n ≤ 256) × (e ≤ 65536) }
     ensures { (result ≡ file_bits p n e) × (result ≤ 1574960) }
 {
     edges_begin(p, n) + edge_bits(p) * e
@@ -105,12 +60,12 @@ pub fn bytes_for(bits: usize) -> usize
     requires { bits ≤ 2 ^ 32 }
     ensures { result ≡ bytes_for bits }
 {
-    (bits + 7) / 8
+    bits.div_ceil(8)
 }
 
 // The colour of a state of a file.
 pub fn colour(p: Profile, file: &[u8], state: usize) -> usize
-    requires { Usable p × (state ≤ 256) }
+    requires { state ≤ 256 }
     ensures { result ≡ colour_at p file.now state }
 {
     bits::get(file, header_bits(p) + p.colour * state, p.colour) as usize
@@ -118,7 +73,6 @@ pub fn colour(p: Profile, file: &[u8], state: usize) -> usize
 
 // The number of states that a file states, whether it is accepted or not.
 pub fn states(p: Profile, file: &[u8]) -> usize
-    requires { Usable p }
     ensures { (result ≡ states_in p file.now) × (result ≤ 256) }
 {
     bits::get(file, 0, p.states) as usize + 1
@@ -126,7 +80,7 @@ pub fn states(p: Profile, file: &[u8]) -> usize
 
 // How many bits there are from the last edge to the end of its byte.
 pub fn fill_bits(p: Profile, n: usize, e: usize) -> usize
-    requires { Usable p × (n ≤ 256) × (e ≤ 65536) }
+    requires { (n ≤ 256) × (e ≤ 65536) }
     ensures { result ≡ fill_bits p n e }
 {
     let bits = file_bits(p, n, e);
@@ -135,7 +89,7 @@ pub fn fill_bits(p: Profile, n: usize, e: usize) -> usize
 
 // Zero bits to the end of the byte.
 pub fn fill(p: Profile, room: &mut [u8], n: usize, e: usize)
-    requires { Usable p × (n ≤ 256) × (e ≤ 65536) }
+    requires { (n ≤ 256) × (e ≤ 65536) }
     ensures { room.new ≡ put_field room.old (file_bits p n e) (fill_bits p n e) 0 }
 {
     bits::put(room, file_bits(p, n, e), fill_bits(p, n, e), 0);

@@ -2,7 +2,7 @@
 use Prim.Native.Nat.{ℕ, zero, suc, ◌+◌, ◌*◌, ◌-◌, ◌/◌, ◌%◌, ◌^◌, ◌≤◌, ◌<◌}
 use mathlib.Core.Path.{◌≡◌, refl, sym, ap, ◌∙◌}
 use mathlib.Core.Bool.{Bool, true, false, not, ◌&&◌}
-use mathlib.Core.Logic.{◌⊎◌, inl, inr, ⊎_elim}
+use mathlib.Core.Logic.{◌⊎◌, inr, ⊎_elim}
 use mathlib.Core.List.{List, [], ◌∷◌}
 use mathlib.Core.Option.{none, some}
 use native.Mathlib.Nat.{div-add-mod', mod-lt, mul-add-div_right, div-lt_iff_lt-mul, mul_comm, add-mul, add-zero, mul-zero, mul-suc, le_trans, lt_of_le_of_lt}
@@ -20,8 +20,8 @@ use Rattle.meaning.specs.SearchLaws.{any_none}
 use Rattle.meaning.specs.Cases.{cases_of, and_left, and_right, no_both}
 use Rattle.meaning.specs.Filter.{Edge, inside, comes_before, leads, ascending}
 use Rattle.meaning.specs.Fault.{leaves}
-use Rattle.layout.specs.declared.Profile.{Profile}
-use Rattle.layout.specs.declared.FaultColour.TheVariants.{None, Is}
+use Rattle.layout.specs.declared.profile.Profile.{Profile}
+use Rattle.std.specs.Prelude.{Some, None}
 use Rattle.layout.specs.declared.edge.Placed.{Placed}
 use Rattle.layout.specs.Layout.{colour_of, fault_colour, header_bits, edge_bits, edges_begin}
 use Rattle.layout.specs.Contents.{states_in, colours_in, colour_at, placed_at, placed_from, edge_at, edges_from}
@@ -96,7 +96,7 @@ unfolding colours_in colour_at
 colour_at_lem P file s l = run_at file (header_bits P) P.colour (states_in P file) s l ∙ ap (λ (k : ℕ). field file (header_bits P + k) P.colour) (mul_comm s P.colour)
 
 -- a fault colour is 63, in six bits
-six_bits : (P : Profile) (file : List ℕ) → Usable P → (c : ℕ) → P.fault ≡ Is c → (s : ℕ) → colour_at P file s ≡ c → field file (header_bits P + 6 * s) 6 ≡ 63
+six_bits : (P : Profile) (file : List ℕ) → Usable P → (c : ℕ) → P.fault ≡ Some c → (s : ℕ) → colour_at P file s ≡ c → field file (header_bits P + 6 * s) 6 ≡ 63
 unfolding colour_at header_bits
 six_bits P file ok c q s e = let six = ok.six_ones c q in rw (six.0, six.1) at e
 
@@ -174,7 +174,7 @@ module _ (P : Profile) (file : List ℕ) (n e : ℕ) (passed : Passed P file n e
   in_order_lem = fault_free n passed.labels none (placed_from P file (edges_begin P n) e) passed.clear
 
   pub few_states : n ≤ 256
-  few_states = rw passed.states (states_high P passed.usable file)
+  few_states = rw passed.states (states_high P P.usable file)
 
   -- an edge's ends are states
   pub ends : (k : ℕ) → k < e → ((nth_edge P file n k).source < n) × ((nth_edge P file n k).target < n)
@@ -202,9 +202,6 @@ module _ (P : Profile) (file : List ℕ) (n e : ℕ) (passed : Passed P file n e
   -- ---- halving
 
   module _ (s : ℕ) where
-    pub halved_begun : Halved P file n e s 0 e
-    halved_begun = record { ordered = omega arith; within = omega arith; before = λ k l. absurd (omega arith); behind = λ k l m. absurd (omega arith) }
-
     module _ (low high middle : ℕ) (w : Halved P file n e s low high) (l : low ≤ middle) (h : middle < high) where
       pub halved_low : from middle < s → Halved P file n e s (middle + 1) high
       halved_low is = record {
@@ -224,7 +221,7 @@ module _ (P : Profile) (file : List ℕ) (n e : ℕ) (passed : Passed P file n e
 
   -- ---- there is a fault colour
 
-  module _ (c : ℕ) (q : P.fault ≡ Is c) where
+  module _ (c : ℕ) (q : P.fault ≡ Some c) where
     is_fault : fault_colour P ≡ some c
     is_fault = ap colour_of q
 
@@ -239,14 +236,11 @@ module _ (P : Profile) (file : List ℕ) (n e : ℕ) (passed : Passed P file n e
     pub none_left : (s : ℕ) → n ≤ s → NoneBefore P file n e c s → leaving_in P file n e ≡ none
     none_left s all clear = rw is_fault (first_none P file c (edges_begin P n) e (λ k l. clear k l (omega (arith, (ends k l).0))))
 
-    pub none_begun : NoneBefore P file n e c 0
-    none_begun k l m = absurd (omega arith)
-
     pub none_eight : (s eight : ℕ) → NoneBefore P file n e c s → eight ≡ field file (header_bits P + 6 * s) 48 → NoneIs63 eight → NoneBefore P file n e c (s + 8)
     none_eight s eight clear is no63 k l m = cases_of (ltb (from k) s) (λ b. clear k l (ltb-true (from k) s b))
         (λ b. let high = ltb-false (from k) s b in
         let there : header_bits P + 6 * s + 6 * (from k - s) ≡ header_bits P + 6 * from k = omega arith in
-        source_other k l (λ f. none_of_eight file (header_bits P + 6 * s) eight is no63 (from k - s) (omega arith) (rw there (six_bits P file passed.usable c q (from k) f))))
+        source_other k l (λ f. none_of_eight file (header_bits P + 6 * s) eight is no63 (from k - s) (omega arith) (rw there (six_bits P file P.usable c q (from k) f))))
 
     pub none_other : (s : ℕ) → NoneBefore P file n e c s → (colour_at P file s ≡ c → ⊥) → NoneBefore P file n e c (s + 1)
     none_other s clear differs k l m = cases_of (ltb (from k) s) (λ b. clear k l (ltb-true (from k) s b))
@@ -255,16 +249,10 @@ module _ (P : Profile) (file : List ℕ) (n e : ℕ) (passed : Passed P file n e
     -- ---- the edges of a state
 
     module _ (s : ℕ) where
-      pub going_begun : (i : ℕ) → Halved P file n e s i i → Going P file n e c s i
-      going_begun i w = record { within = w.within; before = λ k l. inl (w.before k l); behind = w.behind }
-
       module _ (i : ℕ) (w : Going P file n e c s i) where
         -- no edge before it leaves
         passed_by : NoneBefore P file n e c s → (k : ℕ) → k < i → leaving k ≡ false
         passed_by clear k l = ⊎_elim (λ low. clear k (omega (arith, w.within)) low) (λ stays. stays) (w.before k l)
-
-        pub going_end : e ≤ i → NoneBefore P file n e c s → NoneBefore P file n e c (s + 1)
-        going_end all clear k l m = passed_by clear k (omega arith)
 
         pub going_other : i < e → (from i ≡ s → ⊥) → NoneBefore P file n e c s → NoneBefore P file n e c (s + 1)
         going_other more differs clear k l m = cases_of (ltb k i) (λ b. passed_by clear k (ltb-true k i b))

@@ -5,13 +5,11 @@ use Rattle.std.proofs.Math.Option.{Option, none, some}
 use Rattle.meaning.specs.Filter.{Edge}
 use Rattle.meaning.specs.Search.{at}
 use Rattle.meaning.specs.Fault.{leaves}
-use Rattle.layout.specs.declared.Profile.{Profile}
+use Rattle.layout.specs.declared.profile.Profile.{Profile}
 use Rattle.layout.specs.Layout.{fault_colour, edge_bits, edges_begin}
 use Rattle.layout.specs.Contents.{states_in, colours_in, placed_from, edge_at}
-use Rattle.layout.specs.Code.{Usable}
-use Rattle.edges.specs.declared.Verdict.{Verdict}
 use Rattle.edges.specs.Faults.{Fault, first_fault, first_leaving}
-use Rattle.edges.specs.Walk.{fault_of}
+use Rattle.edges.specs.Walk.{Verdict, fault_of}
 
 -- None of eight fields of six bits is 63; field 0 is the lowest.
 abbrev pub NoneIs63 : ℕ → Type 0
@@ -19,7 +17,6 @@ NoneIs63 eight = (k : ℕ) → k < 8 → eight / 2 ^ (6 * k) % 64 ≡ 63 → ⊥
 
 -- The e edges of a file with n states have passed 7, 8 and 9.
 pub record Passed (P : Profile) (file : List ℕ) (n e : ℕ) : Type 0 where
-  pub usable : Usable P
   pub states : n ≡ states_in P file
   pub few : e < 32768
   pub labels : ℕ

@@ -4,21 +4,18 @@
 
 ghost use Rattle.std.specs.Prelude.{◌≡◌, false, ◌+◌, ◌*◌, ◌^◌, ◌≤◌, ◌<◌};
 ghost use Rattle.std.proofs.Math.Option.{some};
-ghost use Rattle.layout.specs.declared.FaultColour.TheVariants.{Is};
 ghost use Rattle.layout.specs.Layout.{edge_bits, edges_begin};
 ghost use Rattle.layout.specs.Contents.{colour_at, placed_at};
-ghost use Rattle.layout.specs.Code.{Usable};
 ghost use Rattle.edges.specs.Walk.{fault_of};
 ghost use Rattle.leaving.specs.Leaving.{Passed, leaving_in, EdgesOf, Halved, NoneIs63};
 
-use edges::Verdict;
 use layout::Profile;
 use layout::edge::Placed;
 use refusals::{Kind, Refusal};
 
 // Looks state by state, and at eight of them in one go where none of these has the colour.
-pub fn first(p: Profile, colour: usize, file: &[u8], n: usize, e: usize) -> Verdict
-    requires { Passed p file.now n e × (p.fault ≡ Is colour) }
+pub fn first(p: Profile, colour: usize, file: &[u8], n: usize, e: usize) -> Result<(), Refusal>
+    requires { Passed p file.now n e × (p.fault ≡ Some colour) }
     ensures { fault_of result ≡ leaving_in p file.now n e }
 {
     let begin = layout::header_bits(p);
@@ -26,17 +23,14 @@ pub fn first(p: Profile, colour: usize, file: &[u8], n: usize, e: usize) -> Verd
     while s < n {
         if some_is_63(bits::get_long(file, begin + 6 * s)) {
             if layout::colour(p, file, s) == colour {
-                let verdict = edges_of(p, colour, file, n, e, s);
-                let Verdict::Faultless = verdict else {
-                    return verdict;
-                };
+                edges_of(p, colour, file, n, e, s)?;
             }
             s += 1;
         } else {
             s += 8;
         }
     }
-    Verdict::Faultless
+    Ok(())
 }
 
 // Whether one of eight fields of six bits is 63. One is added to each field: if a top bit is gone then, some field was 63.
@@ -49,24 +43,29 @@ fn some_is_63(eight: u64) -> bool
 }
 
 // The edges of a state of the fault colour: the first that leaves it.
-fn edges_of(p: Profile, colour: usize, file: &[u8], n: usize, e: usize, state: usize) -> Verdict
-    requires { Passed p file.now n e × (p.fault ≡ Is colour) × (colour_at p file.now state ≡ colour) }
+fn edges_of(
+    p: Profile,
+    colour: usize,
+    file: &[u8],
+    n: usize,
+    e: usize,
+    state: usize,
+) -> Result<(), Refusal>
+    requires { Passed p file.now n e × (p.fault ≡ Some colour) × (colour_at p file.now state ≡ colour) }
     ensures { EdgesOf p file.now n e colour state result }
 {
-    let mut i = first_from(p, file, n, e, state);
-    while i < e {
+    for i in first_from(p, file, n, e, state)..e {
         let edge = edge_at(p, file, n, i);
         let source = edge.source;
         if source.value != state {
-            return Verdict::Faultless;
+            return Ok(());
         }
         let target = edge.target;
         if layout::colour(p, file, target.value) != colour {
             return leaving_at(source.place);
         }
-        i += 1;
     }
-    Verdict::Faultless
+    Ok(())
 }
 
 // The index of the first edge whose source is not before a state; e where there is none.
@@ -91,7 +90,7 @@ fn first_from(p: Profile, file: &[u8], n: usize, e: usize, state: usize) -> usiz
 
 // Edge i of a file with n states.
 fn edge_at(p: Profile, file: &[u8], n: usize, i: usize) -> Placed
-    requires { Usable p × (n ≤ 256) × (i < 32768) }
+    requires { (n ≤ 256) × (i < 32768) }
     ensures { result ≡ placed_at p file.now (edges_begin p n + edge_bits p * i) }
 {
     layout::edge::read(
@@ -101,10 +100,10 @@ fn edge_at(p: Profile, file: &[u8], n: usize, i: usize) -> Placed
     )
 }
 
-fn leaving_at(place: usize) -> Verdict
+fn leaving_at(place: usize) -> Result<(), Refusal>
     ensures { fault_of result ≡ some (record { number = 17; place = place }) }
 {
-    Verdict::Faulty(Refusal {
+    Err(Refusal {
         kind: Kind::Leaving,
         place,
     })

@@ -38,12 +38,7 @@ pub fn put_refusal(room: &mut [u8], at: usize, why: Refusal) -> usize
     let kind = why.kind;
     let place = why.place;
     let behind = text::put(room, at, b"refused ");
-    put_two(
-        room,
-        behind,
-        arrays::wide_byte(refusals::number(kind)) as u64,
-        place as u64,
-    )
+    put_two(room, behind, u64::from(u8::from(kind)), place as u64)
 }
 
 // A state's number and its new number on a line, `-` for a dropped state.
@@ -56,7 +51,7 @@ fn put_state(room: &mut [u8], at: usize, s: u64, new: u16) -> usize
         let behind = text::put_number(room, at, s, b' ');
         return text::put(room, behind, b"-\n");
     }
-    put_two(room, at, s, arrays::wide(new) as u64)
+    put_two(room, at, s, u64::from(new))
 }
 
 // The line of each state.
@@ -66,10 +61,8 @@ fn put_states(room: &mut [u8], at: usize, numbers: &[u16]) -> usize
         × (result ≡ at + length (number_lines 0 numbers.now)) × (result ≤ at + 42 * length numbers.now) }
 {
     let mut end = at;
-    let mut i = 0;
-    while i < numbers.len() {
-        end = put_state(room, end, i as u64, numbers[i]);
-        i += 1;
+    for (i, number) in numbers.iter().enumerate() {
+        end = put_state(room, end, i as u64, *number);
     }
     end
 }

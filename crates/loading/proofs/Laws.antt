@@ -8,7 +8,6 @@ use Prim.Native.Nat.{ℕ, ◌+◌, ◌*◌, ◌-◌, ◌≤◌, ◌<◌}
 use native.Mathlib.Decide.{dec_lt}
 use native.Mathlib.Nat.{le_antisymm, lt_of_lt_of_le}
 use native.Mathlib.Omega.{arith}
-use lib.Dec.{lit≤}
 use lib.ListN.{length, get_or, take, drop, replicate, get_or-append, get_or-eq_default}
 use lib.Pow.{pow_mono}
 use lib.Seq.{length-take-le, get_or-take, get_or-drop, get_or-append-add, ext_get_or}
@@ -22,30 +21,32 @@ use Rattle.meaning.specs.Trace.{target, edge, colour}
 use Rattle.meaning.specs.TraceLaws.{stands, target-snoc, target-before, target_fresh}
 use Rattle.refusals.specs.declared.Refusal.{Refusal}
 use Rattle.refusals.specs.Refusals.{accepted, refusal_outcome}
-use Rattle.layout.specs.declared.Profile.{Profile}
+use Rattle.layout.specs.declared.profile.Profile.{Profile}
 use Rattle.layout.specs.declared.Reading.{Reading}
-use Rattle.layout.specs.Layout.{pocket, header_bits, edge_bits, edges_begin}
+use Rattle.layout.specs.Layout.{header_bits, edge_bits, edges_begin}
 use Rattle.layout.specs.declared.edge.Edge as layout
 use Rattle.layout.specs.declared.edge.Placed.{Placed}
 use Rattle.layout.specs.Contents.{states_in, labels_in, colours_in, placed_at, placed_from, edge_at, edges_from, filter_in}
 use Rattle.layout.specs.Code.{edge_of, bare, Small, Usable}
-use Rattle.layout.proofs.Bounds.{pocket_usable, states_high, states_fit}
+use Rattle.layout.proofs.Bounds.{states_high}
 use Rattle.layout.proofs.EdgeLists.{edges_around, edges_more, bare_read}
-use Rattle.edges.specs.declared.Cursor.{Cursor}
-use Rattle.edges.specs.declared.Verdict.{Verdict}
+use Rattle.std.specs.Prelude.{Some}
+use Rattle.layout.specs.declared.edge.Edges.{Edges}
+use Rattle.layout.specs.Steps.{Advanced}
 use Rattle.edges.specs.Faults.{Fault, first_fault, edges_then}
-use Rattle.edges.specs.Walk.{fault_of, Tested, behind, Walked}
+use Rattle.edges.specs.Walk.{Verdict, fault_of, rank_of, Tested, Walking}
 use Rattle.edges.proofs.Tests.{clear_ends, fault_free}
-use Rattle.edges.proofs.Walks.{begun, walk-begun, walk_clear, walk_next}
+use Rattle.edges.proofs.Walks.{walking-begun, walking_clear, walking_next}
+use Rattle.layout.proofs.Walks.{along_more, along_read, along_done}
 use Rattle.leaving.specs.Leaving.{leaving_in}
 use Rattle.files.specs.Files.{reading_outcome, check_of}
 use Rattle.files.specs.Tests.{HeadIs, edges_read, check_faultless}
 use Rattle.files.specs.Written.{length_colours, length-filter}
 use Rattle.files.proofs.Accepted.{checked_in_order}
-use Rattle.checking.specs.declared.Checked.{Checked}
-use Rattle.checking.specs.Promise.{checked_outcome}
+use Rattle.checking.specs.Promise.{Checked, checked_outcome}
 use Rattle.sets.proofs.FourLaws.{blank}
-use Rattle.table.specs.Table.{Table, table, look, Rows, SameRows, with_edge, Put}
+use Rattle.table.specs.Table.{Table, look, Rows, with_edge, Put}
+use Rattle.table.specs.Table as table
 use Rattle.table.proofs.Laws.{look_empty}
 use Rattle.loading.specs.Loading.{Loadable, Loaded, Tabled, Coloured}
 
@@ -71,70 +72,74 @@ module _ (P : Profile) (file : List ℕ) (at e n m : ℕ) (T₀ : Table) where
   abbrev all : List Placed
   all = placed_from P file at e
 
-  -- A walk has come to a cursor, and if no edge has a fault the table has those before it.
-  pub record Filling (T : Table) (c : Cursor) : Type 0 where
-    pub walked : Walked P file at e n m c
-    pub filled : first_fault n m none all ≡ none → look T ≡ target (edges_from P file at c.index)
-    pub rows : SameRows T₀ T
+  -- A walk has come to an edge, and if no edge has a fault the table has those before it.
+  pub record Filling (T : Table) (last : ℕ) (walk : Edges) : Type 0 where
+    pub walking : Walking P file at e n m last walk
+    pub filled : first_fault n m none all ≡ none → look T ≡ target (edges_from P file at walk.index)
+    pub rows : length T ≡ length T₀
 
-  pub filling_begun : T₀.labels ≡ replicate (length T₀.labels) 0 → Filling T₀ (begun P file at e n m)
-  unfolding edges_from placed_from
-  filling_begun empty = record {
-    walked = walk-begun P file at e n m;
-    filled = λ clear. ap (λ (l : List ℕ). look (table T₀.targets l)) empty ∙ look_empty T₀.targets (length T₀.labels);
-    rows = record { targets_same = refl; labels_same = refl };
+  pub filling_begun : ((s y : ℕ) → look T₀ s y ≡ none) → (walk : Edges) →
+      (walk.p ≡ P) × (walk.file.now ≡ file) × (walk.place ≡ at) × (walk.index ≡ 0) × (walk.end ≡ e) → Filling T₀ 0 walk
+  unfolding edges_from placed_from target
+  filling_begun empty walk begin = record {
+    walking = walking-begun P file at e n m walk begin;
+    filled = λ clear. rw begin.3 (fun_ext λ s. fun_ext λ y. empty s y);
+    rows = refl;
   }
 
   all_ascend : first_fault n m none all ≡ none → ascending (edges_from P file at e) ≡ true
   unfolding edges_from
   all_ascend clear = (fault_free n m none all clear).ascend
 
-  module _ (T : Table) (c : Cursor) (f : Filling T c) where
+  module _ (T : Table) (last : ℕ) (walk : Edges) (f : Filling T last walk) where
     -- an edge was read and tested, and has no fault
-    module _ (edge : Placed) (read : edge ≡ placed_at P file c.place) (v : Verdict) (tested : Tested n m c.rank edge v) (more : c.index < e) (clear : fault_of v ≡ none)
-        (plain : layout.Edge) (is : plain ≡ bare edge) where
-      here : edge_of plain ≡ edge_at P file c.place
-      here = bare_read P file c.place edge plain read is
+    module _ (edge : Placed) (walk' : Edges) (step : Advanced walk.p walk.file.now walk.place walk.index walk.end (Some edge) walk'.p walk'.file.now walk'.place walk'.index walk'.end)
+        (v : Verdict) (tested : Tested n m last edge v) (clear : fault_of v ≡ none) (plain : layout.Edge) (is : plain ≡ bare edge) where
+      read : edge ≡ placed_at P file walk.place
+      read = along_read P file at e walk f.walking.along edge walk' step
+
+      more : walk.index < e
+      more = along_more P file at e walk f.walking.along edge walk' step
+
+      here : edge_of plain ≡ edge_at P file walk.place
+      here = bare_read P file walk.place edge plain read is
 
       -- it can be put into the table
       pub filling_room : P.labels ≤ 6 → Rows T₀ n → (plain.label < 64) × Rows T (plain.source + 1)
       filling_room narrow room =
-          let low = (clear_ends n m f.walked.before edge (walk_clear P file at e n m c f.walked edge read v tested more clear)).0 in
+          let w = f.walking.walked in
+          let low = (clear_ends n m w.before edge (walking_clear P file at e n m last walk f.walking edge walk' step v tested clear)).0 in
           let source : plain.source ≡ edge.source.value = ap (λ (d : layout.Edge). d.source) is in (
-            rw (ap (λ (d : Edge). d.label) here) (label_low P file c.place narrow),
-            record {
-              targets_long = omega (arith, low, source, room.targets_long, f.rows.targets_same);
-              labels_long = omega (arith, low, source, room.labels_long, f.rows.labels_same);
-            },
+            rw (ap (λ (d : Edge). d.label) here) (label_low P file walk.place narrow),
+            record { long = omega (arith, low, source, room.long, f.rows) },
           )
 
-      pub filling_next : Small (bare edge) → (T' : Table) → Put T T' plain.source plain.label plain.target → Filling T' (behind P edge c)
-      filling_next small T' put =
-          let es = edges_from P file at c.index in
-          let rest = edges_from P file (at + edge_bits P * c.index + edge_bits P) (e - (c.index + 1)) in
-          let now-is : edge_at P file (at + edge_bits P * c.index) ≡ edge_of plain = ap (edge_at P file) (sym f.walked.placed) ∙ sym here in
-          let parts : edges_from P file at e ≡ es ++ (edge_of plain ∷ rest) = edges_around P file at e c.index more ∙ ap (λ (x : Edge). es ++ (x ∷ rest)) now-is in
+      pub filling_next : (last' : ℕ) → last' ≡ rank_of (some (edge_of plain)) → (T' : Table) → Put T T' plain.source plain.label plain.target → Filling T' last' walk'
+      filling_next last' ranked T' put =
+          let w = f.walking.walked in
+          let es = edges_from P file at walk.index in
+          let rest = edges_from P file (at + edge_bits P * walk.index + edge_bits P) (e - (walk.index + 1)) in
+          let now-is : edge_at P file (at + edge_bits P * walk.index) ≡ edge_of plain = ap (edge_at P file) (sym w.placed) ∙ sym here in
+          let parts : edges_from P file at e ≡ es ++ (edge_of plain ∷ rest) = edges_around P file at e walk.index more ∙ ap (λ (x : Edge). es ++ (x ∷ rest)) now-is in
           record {
-            walked = walk_next P file at e n m c f.walked edge read v tested more small clear;
+            walking = walking_next P file at e n m last walk f.walking edge walk' step v tested clear last' (ranked ∙ ap (λ (d : layout.Edge). rank_of (some (edge_of d))) is);
             filled = λ none-faulty.
-                look_more T T' es (edge_of plain) rest put (f.filled none-faulty) (ap ascending (sym parts) ∙ all_ascend none-faulty)
-                ∙ ap target (sym (edges_more P file at c.index ∙ ap (λ (x : Edge). es ++ (x ∷ [])) now-is));
-            rows = record {
-              targets_same = put.rows.targets_same ∙ f.rows.targets_same;
-              labels_same = put.rows.labels_same ∙ f.rows.labels_same;
-            };
+                rw step.6
+                (look_more T T' es (edge_of plain) rest put (f.filled none-faulty) (ap ascending (sym parts) ∙ all_ascend none-faulty)
+                ∙ ap target (sym (edges_more P file at walk.index ∙ ap (λ (x : Edge). es ++ (x ∷ [])) now-is)));
+            rows = put.rows ∙ f.rows;
           }
 
     -- all edges are passed
-    pub filling_done : e ≤ c.index → first_fault n m none all ≡ none → look T ≡ target (edges_from P file at e)
+    pub filling_done : walk.end ≤ walk.index → first_fault n m none all ≡ none → look T ≡ target (edges_from P file at e)
     filling_done done clear =
-        f.filled clear ∙ ap (λ (k : ℕ). target (edges_from P file at k)) (le_antisymm f.walked.inside done)
+        f.filled clear ∙ ap (λ (k : ℕ). target (edges_from P file at k)) (along_done P file at e walk f.walking.along done)
 
 -- ---- the table of a file
 
 -- a refused file leaves the table as it may be
 pub loaded_refused : (P : Profile) (file : List ℕ) (r : Checked) (why : Refusal) (T T' : Table) → checked_outcome r ≡ refusal_outcome why →
-    check_of P file ≡ refusal_outcome why → SameRows T T' → Loaded P file r T T'
+    check_of P file ≡ refusal_outcome why → length T' ≡ length T → Loaded P file r T T'
 loaded_refused P file r why T T' is h rows = record {
   answer = is ∙ sym h;
   edges = λ numbers k. let z : refusal_outcome why ≡ accepted numbers = sym h ∙ k in impossible cc;
@@ -145,7 +150,7 @@ loaded_refused P file r why T T' is h rows = record {
 pub loaded_told : (P : Profile) (file : List ℕ) (r : Reading) (a : Checked) (leaving : Option Fault) (T T' : Table) → HeadIs P file r →
     checked_outcome a ≡ edges_then leaving (reading_outcome r) → leaving ≡ leaving_in P file r.states r.edges →
     let at = edges_begin P r.states in
-    first_fault r.states r.labels none (placed_from P file at r.edges) ≡ none → look T' ≡ target (edges_from P file at r.edges) → SameRows T T' →
+    first_fault r.states r.labels none (placed_from P file at r.edges) ≡ none → look T' ≡ target (edges_from P file at r.edges) → length T' ≡ length T →
     Loaded P file a T T'
 unfolding edge filter_in
 loaded_told P file r a leaving T T' is told found clear has rows = record {
@@ -155,30 +160,22 @@ loaded_told P file r a leaving T T' is told found clear has rows = record {
 }
 
 -- a fresh table of k rows serves a file whose states need no more
-pub serves : (P : Profile) (file targets labels : List ℕ) (k : ℕ) → Usable P → P.labels ≤ 6 → length targets ≡ k * 64 →
-    (labels ≡ replicate k 0) × (length labels ≡ k) → states_in P file ≤ k → Loadable P file (table targets labels)
-serves P file targets labels k ok narrow long fresh h = record {
-  usable = ok;
+pub serves : (P : Profile) (file : List ℕ) (T : Table) (k : ℕ) → P.labels ≤ 6 → (T ≡ replicate k table.blank) × (length T ≡ k) → states_in P file ≤ k →
+    Loadable P file T
+unfolding target
+serves P file T k narrow fresh h = record {
   labels≤6 = narrow;
-  empty = fresh.0 ∙ ap (λ (j : ℕ). replicate j 0) (sym fresh.1);
-  rows = record { targets_long = omega (arith, long); labels_long = omega (arith, fresh.1) };
+  empty = λ s y. ap (λ (T : Table). look T s y) fresh.0 ∙ ap (λ (f : ℕ → ℕ → Option ℕ). f s y) (look_empty k);
+  rows = record { long = omega (arith, fresh.1, h) };
 }
-
--- the small table serves every pocket file
-pub pocket_serves : (file targets labels : List ℕ) → length targets ≡ 1024 → (labels ≡ replicate 16 0) × (length labels ≡ 16) → Loadable pocket file (table targets labels)
-pocket_serves file targets labels long fresh = serves pocket file targets labels 16 pocket_usable (lit≤ tt) long fresh (states_fit pocket pocket_usable file)
 
 -- what is loaded can be looked up
 pub tabled : (P : Profile) (file : List ℕ) (r : Checked) (T T' : Table) → Loadable P file T → Loaded P file r T T' → Tabled P file r T'
 tabled P file r T T' before after = record {
-  usable = before.usable;
   labels≤6 = before.labels≤6;
   answer = after.answer;
   edges = after.edges;
-  rows = record {
-    targets_long = omega (arith, before.rows.targets_long, after.rows.targets_same);
-    labels_long = omega (arith, before.rows.labels_long, after.rows.labels_same);
-  };
+  rows = record { long = omega (arith, before.rows.long, after.rows) };
 }
 
 -- what the table of an accepted file gives is an edge between states of the file, at a label of the file

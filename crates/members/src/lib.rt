@@ -11,11 +11,9 @@ pub fn follow(names: &[u16; 256], live: &[u16], n: usize, next: &mut [u16; 256])
     ensures { Linked names.now n next.new }
 {
     let mut nearest = arrays::filled(n as u16); // by name: the first of the members that are linked already
-    let mut j = live.len();
-    while 0 < j {
-        j -= 1;
-        let s = arrays::wide(live[j]);
-        let c = arrays::wide(names[s]);
+    for state in live.iter().rev() {
+        let s = usize::from(*state);
+        let c = usize::from(names[s]);
         next[s] = nearest[c];
         nearest[c] = s as u16;
     }
@@ -27,14 +25,14 @@ pub fn relink(names: &[u16; 256], n: usize, c: usize, next: &mut [u16; 256])
     requires { Relinkable names.now next.old n c }
     ensures { Linked names.now n next.new }
 {
-    let mut latest = arrays::fresh(); // by name: the last of the members that are linked already, 65,535 where there is none
+    let mut latest = arrays::filled(65535); // by name: the last of the members that are linked already, 65,535 where there is none
     let mut s = c;
     while s < n {
-        let behind = arrays::wide(next[s]);
-        let d = arrays::wide(names[s]);
+        let behind = usize::from(next[s]);
+        let d = usize::from(names[s]);
         let before = latest[d];
         if before != 65535 {
-            next[arrays::wide(before)] = s as u16;
+            next[usize::from(before)] = s as u16;
         }
         latest[d] = s as u16;
         next[s] = n as u16;
@@ -48,12 +46,10 @@ pub fn count(names: &[u16; 256], n: usize) -> usize
     ensures { (result ≡ classes n names.now) × (result ≤ n) }
 {
     let mut k = 0;
-    let mut s: usize = 0;
-    while s < n {
+    for s in 0..n {
         if names[s] == s as u16 {
             k += 1;
         }
-        s += 1;
     }
     k
 }

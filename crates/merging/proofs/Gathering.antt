@@ -7,14 +7,14 @@ use mathlib.Core.Option.{Option, none, some}
 use native.Mathlib.Omega.{arith}
 use native.Mathlib.Numerals.{add-one}
 use lib.Dec.{eqb, ltb}
-use lib.ListN.{take}
+use lib.ListN.{length, take}
 use borrow.Author.Tests.{eqb-true, eqb-false, eq-eqb, ne_eqb, ltb-true, ltb-false}
 use Rattle.meaning.specs.Pick.{pick}
 use Rattle.meaning.specs.Search.{least, at}
 use Rattle.meaning.specs.SearchLaws.{least_ok, least_is, least-below, least_none, least_empty, least_max, at_take}
 use Rattle.meaning.specs.Cases.{cases_of, and_left, and_right, no_both}
 use Rattle.meaning.specs.Reduced.{has}
-use Rattle.table.specs.Table.{Table, look, SameRows, or, given, Gave}
+use Rattle.table.specs.Table.{Table, look, or, given, Gave}
 use Rattle.numbering.specs.Names.{Names}
 use Rattle.numbering.proofs.Laws.{name_low}
 use Rattle.merging.specs.Merged.{Gathered}
@@ -107,10 +107,10 @@ module _ (next : ℕ → ℕ → Option ℕ) (P : List ℕ) where
 pub record Gathering (T₀ : Table) (P : List ℕ) (T : Table) (s : ℕ) : Type 0 where
   pub done : (c y : ℕ) → c < s → at P c ≡ c → look T c y ≡ seen (look T₀) P c y s
   pub later : (c y : ℕ) → s ≤ c → look T c y ≡ look T₀ c y
-  pub rows : SameRows T₀ T
+  pub rows : length T ≡ length T₀
 
 pub gathering_begins : (T : Table) (P : List ℕ) → Gathering T P T 0
-gathering_begins T P = record { done = λ c y h. absurd (omega arith); later = λ c y h. refl; rows = record { targets_same = refl; labels_same = refl } }
+gathering_begins T P = record { done = λ c y h. absurd (omega arith); later = λ c y h. refl; rows = refl }
 
 module _ (T₀ T : Table) (names : List ℕ) (n : ℕ) (ok : Names n names) (s : ℕ) (r : Gathering T₀ (take n names) T s) (h : s < n) where
   abbrev Q : List ℕ
@@ -172,7 +172,7 @@ module _ (T₀ T : Table) (names : List ℕ) (n : ℕ) (ok : Names n names) (s :
             let other : c ≡ s → ⊥ = λ i. e (sym name ∙ ap (at Q) (sym i) ∙ o ∙ i) in
             apart c y z' ∙ miss c y (omega (arith, other)) o (λ i. z' (sym i ∙ name)));
         later = λ c y k. apart c y (λ z. omega arith) ∙ r.later c y (omega arith);
-        rows = record { targets_same = gave.rows.targets_same ∙ r.rows.targets_same; labels_same = gave.rows.labels_same ∙ r.rows.labels_same };
+        rows = gave.rows ∙ r.rows;
       })
 
 pub gathering_ends : (T₀ T : Table) (P : List ℕ) (n : ℕ) → ((y : ℕ) → look T₀ n y ≡ none) → Gathering T₀ P T n → Gathered T₀ T n P

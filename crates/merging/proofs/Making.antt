@@ -16,7 +16,7 @@ use Rattle.meaning.specs.Cases.{and_left}
 use Rattle.meaning.proofs.Traced.{In, opt, number_lt, name_is}
 use Rattle.meaning.specs.Reduced.{has, name_of, mapped, class_edge, edge', listed}
 use Rattle.meaning.specs.Listing.{listed_cong}
-use Rattle.layout.specs.declared.Profile.{Profile}
+use Rattle.layout.specs.declared.profile.Profile.{Profile}
 use Rattle.layout.specs.declared.Reading.{Reading}
 use Rattle.layout.specs.Layout.{length_of}
 use Rattle.refusals.specs.Refusals.{laid}
@@ -108,12 +108,8 @@ module _ {p : Profile} {T₀ : Table} {colours names : List ℕ} {r : Reading} {
 
     pub can_store : Storable p T order list r.labels
     can_store = record {
-      usable = can.usable;
       states = omega (arith, order_long ready.order_is, fit_classes);
-      rows = λ i h. record {
-        targets_long = omega (arith, below ready.order_is i h, can.rows.targets_long, ready.gathered.rows.targets_same);
-        labels_long = omega (arith, below ready.order_is i h, can.rows.labels_long, ready.gathered.rows.labels_same);
-      };
+      rows = λ i h. record { long = omega (arith, below ready.order_is i h, can.rows.long, ready.gathered.rows) };
       label = λ i y t h e. (first_in i y t h e).0;
       in_list = λ i y t h e. omega (arith, (first_in i y t h e).1.state, ready.long);
       target = λ i y t h e.

@@ -4,10 +4,9 @@ use Rattle.std.proofs.Math.Option.{Option, some}
 use Rattle.meaning.specs.Search.{least, at}
 use Rattle.meaning.specs.Filter.{Filter}
 use Rattle.meaning.specs.Reduced.{has, merged_over}
-use Rattle.layout.specs.declared.Profile.{Profile}
+use Rattle.layout.specs.declared.profile.Profile.{Profile}
 use Rattle.layout.specs.declared.Reading.{Reading}
-use Rattle.layout.specs.Code.{Usable}
-use Rattle.table.specs.Table.{Table, look, Rows, SameRows}
+use Rattle.table.specs.Table.{Table, look, Rows}
 use Rattle.storing.specs.Stored.{Packable}
 use Rattle.numbering.specs.Names.{Names}
 
@@ -19,7 +18,7 @@ Within next n m = (s y t : ℕ) → next s y ≡ some t → (s < n) × (y < m) �
 pub record Gathered (T T' : Table) (n : ℕ) (P : List ℕ) : Type 0 where
   pub edges : (c y : ℕ) → c < n → at P c ≡ c →
       look T' c y ≡ look T (least (λ s. eqb (at P s) c && has (look T s y)) n) y
-  pub rows : SameRows T T'
+  pub rows : length T' ≡ length T
 
 -- The filter of the classes of a reading, by its table, its colours and the names of its states.
 abbrev pub merged_by : Table → List ℕ → List ℕ → Reading → Filter
@@ -29,7 +28,6 @@ merged_by T colours names r =
 -- Table, colours and names fit a reading, the start is in a class and edges lead from classes to classes, and the rooms hold what is
 -- written.
 pub record Foldable (p : Profile) (T : Table) (colours names : List ℕ) (r : Reading) (answer list : ℕ) : Type 0 where
-  pub usable : Usable p
   pub labels : r.labels ≤ 64
   pub begins : r.start < r.states
   pub begins_in : at (take r.states names) r.start < r.states

@@ -4,7 +4,7 @@ use mathlib.Core.Path.{◌≡◌, refl, sym, ap, ◌∙◌}
 use mathlib.Core.List.{List, [], ◌∷◌, ◌++◌}
 use native.Mathlib.Omega.{arith}
 use native.Mathlib.Numerals.{add-one}
-use lib.ListN.{length, set, take, drop, length-set, get_or-append}
+use lib.ListN.{length, set, take, drop, get_or-append}
 use lib.Dec.{eqb}
 use borrow.Author.Tests.{eq-eqb, ne_eqb}
 use Rattle.bits.proofs.Parts.{store_more}
@@ -58,13 +58,11 @@ pub record Numbering (n : ℕ) (P list₀ order₀ list order : List ℕ) (k s :
   pub counted : k ≡ count (named P) s
   pub few : k ≤ s
   pub list_is : list ≡ tab s (new_number P) ++ drop s list₀
-  pub list_same : length list ≡ length list₀
   pub order_is : order ≡ tab k (name_of n P) ++ drop k order₀
-  pub order_same : length order ≡ length order₀
 
 pub numbering_begins : (n : ℕ) (P list₀ order₀ : List ℕ) → Numbering n P list₀ order₀ list₀ order₀ 0 0
 unfolding count tab
-numbering_begins n P list₀ order₀ = record { counted = refl; few = omega arith; list_is = refl; list_same = refl; order_is = refl; order_same = refl }
+numbering_begins n P list₀ order₀ = record { counted = refl; few = omega arith; list_is = refl; order_is = refl }
 
 module _ (names : List ℕ) (n : ℕ) (ok : Names n names) (list₀ order₀ list order : List ℕ) (k s : ℕ) (r : Numbering n (take n names) list₀ order₀ list order k s) (h : s < n) (enough : n ≤ length list₀) where
   abbrev P : List ℕ
@@ -82,9 +80,7 @@ module _ (names : List ℕ) (n : ℕ) (ok : Names n names) (list₀ order₀ lis
         counted = ap (λ (z : ℕ). z + 1) r.counted ∙ sym (count_hit (named P) s (eq-eqb _ _ own));
         few = omega (arith, r.few);
         list_is = laid_more (new_number P) list₀ list s k (omega arith) r.list_is listed;
-        list_same = length-set list s k ∙ r.list_same;
         order_is = laid_more (name_of n P) order₀ order k (at names s) (omega (arith, r.few)) r.order_is (e ∙ sym own ∙ sym name);
-        order_same = length-set order k (at names s) ∙ r.order_same;
       }
 
   pub numbering_none : at names s ≡ 65535 → Numbering n P list₀ order₀ (set list s (at names s)) order k (s + 1)
@@ -95,9 +91,7 @@ module _ (names : List ℕ) (n : ℕ) (ok : Names n names) (list₀ order₀ lis
         counted = r.counted ∙ sym (count_miss (named P) s (ne_eqb (at P s) s (λ z. omega (arith, h, is))));
         few = omega (arith, r.few);
         list_is = laid_more (new_number P) list₀ list s (at names s) (omega arith) r.list_is (e ∙ sym (number_out P s is));
-        list_same = length-set list s (at names s) ∙ r.list_same;
         order_is = r.order_is;
-        order_same = r.order_same;
       }
 
   pub numbering_other : (at names s ≡ s → ⊥) → (at names s ≡ 65535 → ⊥) → Numbering n P list₀ order₀ (set list s (at list (at names s))) order k (s + 1)
@@ -113,7 +107,5 @@ module _ (names : List ℕ) (n : ℕ) (ok : Names n names) (list₀ order₀ lis
         counted = r.counted ∙ sym (count_miss (named P) s (ne_eqb _ _ other));
         few = omega (arith, r.few);
         list_is = laid_more (new_number P) list₀ list s (at list (at names s)) (omega arith) r.list_is read;
-        list_same = length-set list s (at list (at names s)) ∙ r.list_same;
         order_is = r.order_is;
-        order_same = r.order_same;
       }

@@ -18,8 +18,7 @@ pub fn numbered(names: &[u16; 256], n: usize, list: &mut [u16], order: &mut [u16
         ≡ laid (tab (classes n (take n names.now)) (name_of n (take n names.now))) order.old }
 {
     let mut k: usize = 0;
-    let mut s: usize = 0;
-    while s < n {
+    for s in 0..n {
         let name = names[s];
         if name == s as u16 {
             order[k] = name;
@@ -28,9 +27,8 @@ pub fn numbered(names: &[u16; 256], n: usize, list: &mut [u16], order: &mut [u16
         } else if name == 65535 {
             list[s] = name;
         } else {
-            list[s] = list[arrays::wide(name)];
+            list[s] = list[usize::from(name)];
         }
-        s += 1;
     }
     k
 }
@@ -42,9 +40,7 @@ pub fn colours_by(colours: &[u8; 256], order: &[u16], hues: &mut [u8])
     ensures { hues.new ≡ laid (tab (length order.now)
         (λ k. at colours.now (at order.now k))) hues.old }
 {
-    let mut k = 0;
-    while k < order.len() {
-        hues[k] = colours[arrays::wide(order[k])];
-        k += 1;
+    for (k, state) in order.iter().enumerate() {
+        hues[k] = colours[usize::from(*state)];
     }
 }

@@ -1,20 +1,22 @@
 -- Laws of the test of observations, and of the largest of them.
 -- Assumes nothing.
-use mathlib.Core.Path.{◌≡◌, refl, sym, ap, ◌∙◌}
-use mathlib.Core.Bool.{Bool, true, false}
+use mathlib.Core.Path.{◌≡◌, refl, ap, ◌∙◌}
+use mathlib.Core.Bool.{Bool, true, false, not}
 use mathlib.Core.List.{List, [], ◌∷◌}
 use mathlib.Core.Option.{Option, none, some}
-use Prim.Native.Nat.{ℕ, zero, suc, ◌+◌, ◌≤◌, ◌<◌}
-use native.Mathlib.Numerals.{add-one}
+use Prim.Native.Nat.{ℕ, zero, suc, ◌+◌, ◌≤◌, ◌<◌, max}
 use native.Mathlib.Omega.{arith}
 use lib.Dec.{leb, ltb}
-use lib.ListN.{length, get_or, drop, drop_of_length-le}
-use lib.Seq.{drop-cons}
-use borrow.Author.Tests.{le-leb, lt-leb, leb-false, lt-ltb, le-ltb, ltb-true, ltb-false}
+use lib.ListN.{length, get_or}
+use borrow.Author.Tests.{lt-leb, leb-false, lt-ltb, le-ltb, ltb-true, ltb-false}
 use Rattle.meaning.specs.Pick.{pick}
 use Rattle.meaning.specs.Trace.{later}
 use Rattle.meaning.specs.Cases.{impossible, cases_of}
-use Rattle.observed.specs.Observed.{first_outside, larger, largest}
+use Rattle.std.specs.List.{fold, position_or_len}
+use Rattle.std.proofs.Common.{Some, None, cond, inl, inr}
+use Rattle.std.proofs.lemmas.Bool.{cases_lt}
+use mathlib.Core.Logic.{◌⊎◌}
+use Rattle.observed.specs.Observed.{first_outside, larger, largest, found}
 
 -- ---- an index further on
 
@@ -33,20 +35,21 @@ from_zero (some k) = ap some (omega arith)
 
 -- ---- the labels' test
 
-pub outside_start : (m : ℕ) (ys : List ℕ) → first_outside m ys ≡ from 0 (first_outside m (drop 0 ys))
-outside_start m ys = from_zero (first_outside m ys)
-
-pub outside_here : (m : ℕ) (ys : List ℕ) (i : ℕ) → i < length ys → m ≤ get_or ys i 0 → from i (first_outside m (drop i ys)) ≡ some i
+-- what the code's search says
+pub outside_position : (m : ℕ) (ys : List ℕ)
+    → found (cond (ltb (position_or_len (leb m) ys) (length ys)) (Some (position_or_len (leb m) ys)) None) ≡ first_outside m ys
 unfolding first_outside
-outside_here m ys i l h = rw (drop-cons ys i 0 l, le-leb _ _ h) (ap some (omega arith))
+outside_position m [] = refl
+outside_position m (y ∷ ys) = go (leb m y) (cases_lt p (length ys)) (outside_position m ys)
+  where
+    p : ℕ
+    p = position_or_len (leb m) ys
 
-pub outside_next : (m : ℕ) (ys : List ℕ) (i : ℕ) → i < length ys → get_or ys i 0 < m → from i (first_outside m (drop i ys)) ≡ from (i + 1) (first_outside m (drop (i + 1) ys))
-unfolding first_outside
-outside_next m ys i l h = rw (drop-cons ys i 0 l, lt-leb _ _ h, add-one i) (from-later i (first_outside m (drop (suc i) ys)) ∙ rw (add-one i))
-
-pub outside_end : (m : ℕ) (ys : List ℕ) (i : ℕ) → length ys ≤ i → from i (first_outside m (drop i ys)) ≡ none
-unfolding first_outside
-outside_end m ys i l = rw (drop_of_length-le ys {i = i} l)
+    go : (b : Bool) → (p < length ys) ⊎ (length ys ≤ p) → found (cond (ltb p (length ys)) (Some p) None) ≡ first_outside m ys
+        → found (cond (ltb (cond (not b) (1 + p) 0) (suc (length ys))) (Some (cond (not b) (1 + p) 0)) None) ≡ pick b (some 0) (later (first_outside m ys))
+    go true _ _ = rw (lt-ltb 0 (suc (length ys)) (omega arith))
+    go false (inl h) rest = rw (lt-ltb (1 + p) (suc (length ys)) (omega arith)) (ap some (omega arith) ∙ ap later (rw (lt-ltb p (length ys) h) at rest))
+    go false (inr h) rest = rw (le-ltb (1 + p) (suc (length ys)) (omega arith)) (ap later (rw (le-ltb p (length ys) h) at rest))
 
 -- observations that pass are all below m
 pub all_inside : (m : ℕ) (ys : List ℕ) → 0 < m → first_outside m ys ≡ none → (i : ℕ) → get_or ys i 0 < m
@@ -70,17 +73,17 @@ larger_most x y z = cases_of (ltb x y)
     (λ p. cases_of (ltb y z) (λ q. rw (p, q, lt-ltb x z (omega (arith, ltb-true x y p, ltb-true y z q)))) (λ q. rw (p, q, p)))
     (λ p. cases_of (ltb y z) (λ q. rw (p, q)) (λ q. rw (p, q, p, le-ltb x z (omega (arith, ltb-false x y p, ltb-false y z q)))))
 
--- the largest is that of what was seen and of what is left
-pub largest_start : (ys : List ℕ) → largest ys ≡ larger 0 (largest (drop 0 ys))
-largest_start ys = cases_of (ltb 0 (largest ys)) (λ q. rw q) (λ q. rw q (omega (arith, ltb-false 0 (largest ys) q)))
+max_larger : (x y : ℕ) → max x y ≡ larger x y
+max_larger x y = cases_of (ltb x y) (λ q. rw q (omega (arith, ltb-true x y q))) (λ q. rw q (omega (arith, ltb-false x y q)))
 
-pub largest_next : (ys : List ℕ) (i most : ℕ) → i < length ys → larger most (largest (drop i ys)) ≡ larger (larger most (get_or ys i 0)) (largest (drop (i + 1) ys))
+-- what the code's fold says
+largest_from : (x : ℕ) (ys : List ℕ) → fold max x ys ≡ larger x (largest ys)
 unfolding largest
-largest_next ys i most l = rw (drop-cons ys i 0 l, add-one i) (sym (larger_most most (get_or ys i 0) (largest (drop (suc i) ys))))
+largest_from x [] = rw (le-ltb x 0 (omega arith))
+largest_from x (y ∷ ys) = largest_from (max x y) ys ∙ ap (λ (z : ℕ). larger z (largest ys)) (max_larger x y) ∙ larger_most x y (largest ys)
 
-pub largest_end : (ys : List ℕ) (i most : ℕ) → length ys ≤ i → larger most (largest (drop i ys)) ≡ most
-unfolding largest
-largest_end ys i most l = rw (drop_of_length-le ys {i = i} l, le-ltb most 0 (omega arith))
+pub largest_fold : (ys : List ℕ) → fold max 0 ys ≡ largest ys
+largest_fold ys = largest_from 0 ys ∙ cases_of (ltb 0 (largest ys)) (λ q. rw q) (λ q. rw q (omega (arith, ltb-false 0 (largest ys) q)))
 
 -- where the largest is below m, no observation is m or more
 pub largest-inside : (m : ℕ) (ys : List ℕ) → largest ys < m → first_outside m ys ≡ none

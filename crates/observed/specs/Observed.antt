@@ -1,6 +1,7 @@
 -- Observations that are no label of the filter (document 01, "Numbers of refusal", 13).
 -- Assumes nothing.
 use Rattle.std.specs.Prelude.{ℕ, List, [], ◌∷◌, leb, ltb}
+use Rattle.std.specs.Prelude as rust
 use Rattle.std.proofs.Math.Option.{Option, none, some}
 use Rattle.meaning.specs.Pick.{pick}
 use Rattle.meaning.specs.Trace.{later}
@@ -17,3 +18,8 @@ larger x y = pick (ltb x y) y x
 unfoldable pub largest : List ℕ → ℕ
 largest [] = 0
 largest (y ∷ ys) = larger y (largest ys)
+
+-- What the code's answer stands for.
+abbrev pub found : rust.Option ℕ → Option ℕ
+found rust.None = none
+found (rust.Some i) = some i

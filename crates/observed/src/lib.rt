@@ -1,50 +1,30 @@
 // Observations, before a ride: the first that is no label of the filter.
 #![tactic(auto)]
 
-ghost use Rattle.std.specs.Prelude.{◌≡◌, ltb, length};
-ghost use Rattle.std.proofs.Math.Option.{none, some};
-ghost use Rattle.meaning.specs.Pick.{pick};
-ghost use Rattle.observed.specs.Observed.{first_outside, largest};
+ghost use Rattle.std.specs.Prelude.{◌≡◌};
+ghost use Rattle.observed.specs.Observed.{first_outside, largest, found};
 
-// The index of the first observation that is m or more, or how many there are.
-pub fn first_outside(m: usize, observations: &[u8]) -> usize
-    ensures { first_outside m observations.now ≡
-        pick (ltb result (length observations.now)) (some result) none }
+// The index of the first observation that is m or more.
+pub fn first_outside(m: usize, observations: &[u8]) -> Option<usize>
+    ensures { found result ≡ first_outside m observations.now }
 {
     // The largest is found many at a time, a first one only one by one.
-    if arrays::wide_byte(largest(observations)) < m {
-        return observations.len();
+    if usize::from(largest(observations)) < m {
+        return None;
     }
     sought_outside(m, observations)
 }
 
 // The same, one by one.
-fn sought_outside(m: usize, observations: &[u8]) -> usize
-    ensures { first_outside m observations.now ≡
-        pick (ltb result (length observations.now)) (some result) none }
+fn sought_outside(m: usize, observations: &[u8]) -> Option<usize>
+    ensures { found result ≡ first_outside m observations.now }
 {
-    let mut i = 0;
-    while i < observations.len() {
-        if m <= arrays::wide_byte(observations[i]) {
-            return i;
-        }
-        i += 1;
-    }
-    i
+    observations.iter().position(|y| m <= usize::from(*y))
 }
 
 // The largest of the values, 0 if there is none. It never leaves early, so that the compiler can take many values at a time.
 fn largest(values: &[u8]) -> u8
     ensures { result ≡ largest values.now }
 {
-    let mut most = 0;
-    let mut i = 0;
-    while i < values.len() {
-        let value = values[i];
-        if most < value {
-            most = value;
-        }
-        i += 1;
-    }
-    most
+    values.iter().fold(0, |most, value| most.max(*value))
 }

@@ -12,13 +12,13 @@ use Rattle.meaning.specs.Filter.{Filter}
 use Rattle.refusals.specs.declared.Refusal.{Refusal}
 use Rattle.refusals.specs.Refusals.{accepted, laid}
 use Rattle.refusals.proofs.Laws.{promise_refused, promise_accepted}
-use Rattle.layout.specs.declared.Profile.{Profile}
+use Rattle.layout.specs.declared.profile.Profile.{Profile}
 use Rattle.layout.specs.Layout.{flat, threes, from_lists, length_of, written}
 use Rattle.layout.specs.Code.{Usable}
 use Rattle.layout.proofs.EdgeLists.{length-flat, threes-flat, flat-threes, length-threes}
 use Rattle.files.specs.Tests.{Writable, Written, write_written, writable_write}
-use Rattle.packing.specs.declared.Packed.{Packed}
-use Rattle.packing.specs.declared.Packed.TheVariants as packed
+use Rattle.packing.specs.Promise.{Packed}
+use Rattle.std.specs.Prelude.{Ok, Err}
 use Rattle.packing.specs.Promise.{packed_outcome, pack_of, PackPromise}
 
 module _ (P : Profile) (ok : Usable P) where
@@ -47,10 +47,10 @@ pack_accepts P F room w l =
 
 -- what pack's lists make of its answer: nothing of the room is changed by a refusal, and the file is laid into it otherwise
 pub pack_refused : (P : Profile) (cs es : List ℕ) (m st : ℕ) (room : List ℕ) (r : Packed) (why : Refusal) →
-    packed_outcome r ≡ pack_of P cs es m st (length room) → r ≡ packed.Refused why → PackPromise P cs es m st room r room
+    packed_outcome r ≡ pack_of P cs es m st (length room) → r ≡ Err why → PackPromise P cs es m st room r room
 pack_refused P cs es m st room r why h e = rw e (promise_refused _ why _ (sym h ∙ ap packed_outcome e))
 
 pub pack_laid : (P : Profile) (cs es : List ℕ) (m st : ℕ) (room : List ℕ) (r : Packed) (n : ℕ) →
-    packed_outcome r ≡ pack_of P cs es m st (length room) → r ≡ packed.Accepted n →
-    PackPromise P cs es m st room (packed.Accepted n) (laid (written P (from_lists cs es m st)) room)
+    packed_outcome r ≡ pack_of P cs es m st (length room) → r ≡ Ok n →
+    PackPromise P cs es m st room (Ok n) (laid (written P (from_lists cs es m st)) room)
 pack_laid P cs es m st room r n h e = promise_accepted _ _ _ (sym h ∙ ap packed_outcome e)

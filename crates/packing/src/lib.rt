@@ -7,39 +7,29 @@ ghost use Rattle.pen.specs.Runs.{put_fields};
 ghost use Rattle.meaning.specs.Search.{at};
 ghost use Rattle.meaning.specs.Fault.{leaves};
 ghost use Rattle.refusals.specs.Refusals.{accepted, first_of, room_test, laid};
-ghost use Rattle.layout.specs.Layout.{large, pocket, colour_of, edge_widths, threes, from_lists, length_of, written};
-ghost use Rattle.layout.specs.Code.{Usable, Small, edge_of, edge_in};
+ghost use Rattle.layout.specs.Layout.{colour_of, edge_widths, threes, from_lists, length_of, written};
+ghost use Rattle.layout.specs.Code.{Small, edge_of, edge_in};
 ghost use Rattle.edges.specs.Faults.{listed_from, or_else, first_fault, first_leaving};
 ghost use Rattle.edges.specs.Walk.{fault_of};
 ghost use Rattle.files.specs.Files.{all_below, holdable};
 ghost use Rattle.packing.specs.Promise.{packed_outcome, pack_of, PackPromise, Placeable};
 
-use edges::Verdict;
 use layout::edge::Edge;
-use layout::{FaultColour, Profile};
+use layout::{Format, Profile};
 use refusals::{Kind, Refusal};
 
-// The length of the packed file.
-#[derive(Clone, Copy)]
-pub enum Packed {
-    Accepted(usize),
-    Refused(Refusal),
-}
-
 // Writes the file of a colour list, an edge list, m and a start, and answers its length.
-pub fn pack(colours: &[u8], edges: &[u8], m: usize, start: usize, room: &mut [u8]) -> Packed
-    ensures { PackPromise large colours.now edges.now m start room.old
+pub fn pack<F: Format>(
+    colours: &[u8],
+    edges: &[u8],
+    m: usize,
+    start: usize,
+    room: &mut [u8],
+) -> Result<usize, Refusal>
+    ensures { PackPromise F.profile colours.now edges.now m start room.old
         result room.new }
 {
-    pack_as(layout::large(), colours, edges, m, start, room)
-}
-
-// The same into a pocket file.
-pub fn pocket_pack(colours: &[u8], edges: &[u8], m: usize, start: usize, room: &mut [u8]) -> Packed
-    ensures { PackPromise pocket colours.now edges.now m start room.old
-        result room.new }
-{
-    pack_as(layout::pocket(), colours, edges, m, start, room)
+    pack_as(F::profile(), colours, edges, m, start, room)
 }
 
 // The same for any widths.
@@ -50,23 +40,19 @@ fn pack_as(
     m: usize,
     start: usize,
     room: &mut [u8],
-) -> Packed
-    requires { Usable p }
+) -> Result<usize, Refusal>
     ensures { PackPromise p colours.now edges.now m start room.old
         result room.new }
 {
-    let answer = test_lists(p, colours, edges, m, start, room.len());
-    let Packed::Accepted(written) = answer else {
-        return answer;
-    };
+    let written = test_lists(p, colours, edges, m, start, room.len())?;
     write(p, colours, edges, m, start, room);
-    Packed::Accepted(written)
+    Ok(written)
 }
 
-fn not_packed(kind: Kind) -> Packed
-    ensures { result ≡ Packed.Refused (record { kind = kind; place = 0 }) }
+fn not_packed(kind: Kind) -> Result<usize, Refusal>
+    ensures { result ≡ Err (record { kind = kind; place = 0 }) }
 {
-    Packed::Refused(refusals::plain(kind))
+    Err(kind.into())
 }
 
 // What pack answers for its lists, its numbers and the length of its room.
@@ -77,8 +63,7 @@ fn test_lists(
     m: usize,
     start: usize,
     room: usize,
-) -> Packed
-    requires { Usable p }
+) -> Result<usize, Refusal>
     ensures { packed_outcome result ≡ pack_of p colours.now edges.now m start room }
 {
     let n = colours.len();
@@ -95,27 +80,22 @@ fn test_lists(
     if n * m < e {
         return not_packed(Kind::EdgeCount);
     }
-    let fault = p.fault;
-    let verdict = test_list(fault, colours, edges, m);
-    let Verdict::Faulty(why) = verdict else {
-        return test_room(layout::bytes_for(layout::file_bits(p, n, e)), room);
-    };
-    Packed::Refused(why)
+    test_list(p.fault, colours, edges, m)?;
+    test_room(layout::bytes_for(layout::file_bits(p, n, e)), room)
 }
 
 // What pack answers for lists that it accepts: the length, if the room holds the file.
-fn test_room(length: usize, room: usize) -> Packed
+fn test_room(length: usize, room: usize) -> Result<usize, Refusal>
     ensures { packed_outcome result ≡ first_of (room_test length room) (accepted (length ∷ [])) }
 {
     if room < length {
         return not_packed(Kind::AnswerRoom);
     }
-    Packed::Accepted(length)
+    Ok(length)
 }
 
 // Whether the file's widths hold so many states, so many labels and each colour.
 pub fn holdable(p: Profile, colours: &[u8], m: usize) -> bool
-    requires { Usable p }
     ensures { result ≡ holdable p colours.now m }
 {
     let n = colours.len();
@@ -137,21 +117,13 @@ pub fn holdable(p: Profile, colours: &[u8], m: usize) -> bool
 fn all_below(limit: usize, values: &[u8]) -> bool
     ensures { result ≡ all_below limit values.now }
 {
-    let mut i = 0;
-    while i < values.len() {
-        if limit <= arrays::wide_byte(values[i]) {
-            return false;
-        }
-        i += 1;
-    }
-    true
+    values.iter().all(|value| usize::from(*value) < limit)
 }
 
 // Writes the file of lists that were tested into a room that holds it.
 pub fn write(p: Profile, colours: &[u8], edges: &[u8], m: usize, start: usize, room: &mut [u8])
-    requires { Usable p
-        × (pack_of p colours.now edges.now m start (length room.old)
-        ≡ accepted (length_of p (from_lists colours.now edges.now m start) ∷ [])) }
+    requires { pack_of p colours.now edges.now m start (length room.old)
+        ≡ accepted (length_of p (from_lists colours.now edges.now m start) ∷ []) }
     ensures { room.new
         ≡ laid (written p (from_lists colours.now edges.now m start)) room.old }
 {
@@ -170,51 +142,46 @@ fn edge_in(edges: &[u8], i: usize) -> Edge
 {
     let at = 3 * i;
     Edge {
-        source: arrays::wide_byte(edges[at]),
-        label: arrays::wide_byte(edges[at + 1]),
-        target: arrays::wide_byte(edges[at + 2]),
+        source: usize::from(edges[at]),
+        label: usize::from(edges[at + 1]),
+        target: usize::from(edges[at + 2]),
     }
 }
 
 // Whether an edge between states leads from the fault colour to another one. Without a fault colour nothing is looked up.
-fn leaves(fault: FaultColour, colours: &[u8], edge: Edge) -> bool
+fn leaves(fault: Option<usize>, colours: &[u8], edge: Edge) -> bool
     requires { (edge.source < length colours.now) × (edge.target < length colours.now) }
     ensures { result ≡ leaves (colour_of fault) (at colours.now) (edge_of edge) }
 {
-    let FaultColour::Is(colour) = fault else {
+    let Some(colour) = fault else {
         return false;
     };
     let source = edge.source;
     let target = edge.target;
-    if arrays::wide_byte(colours[source]) != colour {
+    if usize::from(colours[source]) != colour {
         return false;
     }
-    arrays::wide_byte(colours[target]) != colour
+    usize::from(colours[target]) != colour
 }
 
 // The first fault of a list of edges, three bytes an edge. 17 counts only where no edge has 7, 8 or 9: the first edge that leaves the
 // fault colour is remembered until all are tested.
-fn test_list(fault: FaultColour, colours: &[u8], edges: &[u8], m: usize) -> Verdict
+fn test_list(fault: Option<usize>, colours: &[u8], edges: &[u8], m: usize) -> Result<(), Refusal>
     ensures { fault_of result
         ≡ or_else (first_fault (length colours.now) m none (listed_from 0 (threes edges.now)))
         (first_leaving (colour_of fault) colours.now (listed_from 0 (threes edges.now))) }
 {
     let n = colours.len();
     let e = edges.len() / 3;
-    let mut found = Verdict::Faultless;
+    let mut found = Ok(());
     let mut last = 0;
-    let mut i = 0;
-    while i < e {
+    for i in 0..e {
         let edge = edge_in(edges, i);
-        let verdict = edges::test(n, m, last, edges::listed(i, edge));
-        let Verdict::Faultless = verdict else {
-            return verdict;
-        };
+        edges::test(n, m, last, edges::listed(i, edge))?;
         if leaves(fault, colours, edge) {
             found = edges::or_leaving(found, i);
         }
         last = edges::rank(edge);
-        i += 1;
     }
     found
 }
@@ -234,10 +201,8 @@ fn put_all(p: Profile, part: &mut [u8], bit: usize, edges: &[u8], e: usize)
     ensures { part.new ≡ put_fields part.old bit (edge_widths p e) edges.now }
 {
     let mut pen = pen::begin(part, bit);
-    let mut i = 0;
-    while i < e {
+    for i in 0..e {
         pen = layout::edge::push(p, part, pen, edge_in(edges, i));
-        i += 1;
     }
     pen::finish(part, pen);
 }

@@ -3,6 +3,7 @@ use Prim.Native.Nat.{ℕ, ◌+◌, ◌≤◌, ◌<◌}
 use mathlib.Core.Path.{◌≡◌, refl, sym, ap, ap₂, subst, ◌∙◌}
 use mathlib.Core.Bool.{Bool, true, false, ◌&&◌}
 use mathlib.Core.List.{List}
+use Rattle.std.specs.Prelude.{Option, Some, None, is_some}
 use native.Mathlib.Omega.{arith}
 use lib.Dec.{eqb, ltb}
 use lib.ListN.{length, take}
@@ -18,8 +19,6 @@ use Rattle.conflicts.proofs.Laws.{and-false, any_empty}
 use Rattle.members.specs.Members.{Heads, Seated}
 use Rattle.members.proofs.Laws.{Standing, Hop, at_head, through}
 use Rattle.pairs.specs.Pairs.{against, opposed, found_of}
-use Rattle.pairs.specs.declared.Found.{Found}
-use Rattle.pairs.specs.declared.Found.TheVariants.{Pair, Nothing}
 
 -- ---- the search of a class
 
@@ -56,13 +55,13 @@ module _ (clashes : ℕ → ℕ → Bool) (P : List ℕ) (c : ℕ) where
   unfolding opposed
   opposed_here n a b m e k = and_intro (eq-eqb _ _ e) (any_intro (against clashes P c a) n b m k)
 
-  found_none : (n : ℕ) → ((a : ℕ) → a < n → opposed n clashes P c a ≡ false) → Nothing ≡ found_of n clashes P c
+  found_none : (n : ℕ) → ((a : ℕ) → a < n → opposed n clashes P c a ≡ false) → None ≡ found_of n clashes P c
   unfolding found_of
   found_none n h = rw (le-ltb _ _ (least_empty (opposed n clashes P c) n h))
 
   found_here : (n a b : ℕ) → a < n → b < n → at P a ≡ c → against clashes P c a b ≡ true
       → ((x : ℕ) → x < a → opposed n clashes P c x ≡ false) → ((x : ℕ) → x < b → against clashes P c a x ≡ false)
-      → Pair a b ≡ found_of n clashes P c
+      → Some (a, b) ≡ found_of n clashes P c
   unfolding found_of
   found_here n a b l m e k ha hb =
       let first : least (opposed n clashes P c) n ≡ a = least_is (opposed n clashes P c) n a l (opposed_here n a b m e k) ha in
@@ -73,26 +72,26 @@ module _ (clashes : ℕ → ℕ → Bool) (P : List ℕ) (c : ℕ) where
 
   module _ (n : ℕ) where
     -- a is a member, or n, and no state before it conflicts with a later member
-    pub record Outer (found : Found) (a : ℕ) : Type 0 where
+    pub record Outer (found : Option (ℕ × ℕ)) (a : ℕ) : Type 0 where
       pub stands : Standing P n c a
-      pub nothing : found ≡ Nothing
+      pub nothing : found ≡ None
       pub past : (x : ℕ) → x < a → opposed n clashes P c x ≡ false
 
     -- b is a later member, or n, and a conflicts with no member between
-    pub record Inner (a : ℕ) (found : Found) (b : ℕ) : Type 0 where
+    pub record Inner (a : ℕ) (found : Option (ℕ × ℕ)) (b : ℕ) : Type 0 where
       pub stands : Standing P n c b
       pub after : a < b
-      pub nothing : found ≡ Nothing
+      pub nothing : found ≡ None
       pub past : (x : ℕ) → x < b → against clashes P c a x ≡ false
 
-    pub outer_begun : Heads P n c → Outer Nothing c
+    pub outer_begun : Heads P n c → Outer None c
     outer_begun head = record {
       stands = at_head P n c head;
       nothing = refl;
       past = λ x h. opposed_other n x (head.before x h);
     }
 
-    pub inner_begun : (found : Found) (a b : ℕ) → Outer found a → Hop P n c a b → Inner a found b
+    pub inner_begun : (found : Option (ℕ × ℕ)) (a b : ℕ) → Outer found a → Hop P n c a b → Inner a found b
     inner_begun found a b out next = record {
       stands = next.stands;
       after = next.after;
@@ -101,7 +100,7 @@ module _ (clashes : ℕ → ℕ → Bool) (P : List ℕ) (c : ℕ) where
           (λ x h. against_low a x (omega arith)) (against_low a a (omega arith)) (λ x h l. against_other a x (next.gap x h l));
     }
 
-    pub inner_more : (found found' : Found) (a b b' : ℕ) → Inner a found b → found' ≡ Nothing → clashes a b ≡ false
+    pub inner_more : (found found' : Option (ℕ × ℕ)) (a b b' : ℕ) → Inner a found b → found' ≡ None → clashes a b ≡ false
         → Hop P n c b b' → Inner a found' b'
     inner_more found found' a b b' there none calm next = record {
       stands = next.stands;
@@ -110,7 +109,7 @@ module _ (clashes : ℕ → ℕ → Bool) (P : List ℕ) (c : ℕ) where
       past = through _ b b' there.past (against_calm a b calm) (λ x h l. against_other a x (next.gap x h l));
     }
 
-    pub outer_more : (found found' : Found) (a a' b : ℕ) → Outer found a → Inner a found' b → n ≤ b → Hop P n c a a'
+    pub outer_more : (found found' : Option (ℕ × ℕ)) (a a' b : ℕ) → Outer found a → Inner a found' b → n ≤ b → Hop P n c a a'
         → Outer found' a'
     outer_more found found' a a' b out there all next = record {
       stands = next.stands;
@@ -119,11 +118,11 @@ module _ (clashes : ℕ → ℕ → Bool) (P : List ℕ) (c : ℕ) where
           out.past (opposed_calm n a (λ x h. there.past x (omega arith))) (λ x h l. opposed_other n x (next.gap x h l));
     }
 
-    pub outer_all : (found : Found) (a : ℕ) → Outer found a → n ≤ a → found ≡ found_of n clashes P c
+    pub outer_all : (found : Option (ℕ × ℕ)) (a : ℕ) → Outer found a → n ≤ a → found ≡ found_of n clashes P c
     outer_all found a out all = out.nothing ∙ found_none n (λ x h. out.past x (omega arith))
 
-    pub inner_found : (found found' : Found) (a b : ℕ) → Outer found a → Inner a found' b → a < n → b < n → clashes a b ≡ true
-        → Pair a b ≡ found_of n clashes P c
+    pub inner_found : (found found' : Option (ℕ × ℕ)) (a b : ℕ) → Outer found a → Inner a found' b → a < n → b < n → clashes a b ≡ true
+        → Some (a, b) ≡ found_of n clashes P c
     inner_found found found' a b out there ha hb hit =
         let against-b = against_here a b there.after (there.stands.member hb) hit in
         found_here n a b ha hb (out.stands.member ha) against-b out.past there.past
@@ -134,11 +133,11 @@ module _ (clashes : ℕ → ℕ → Bool) (P : List ℕ) (c : ℕ) where
     abbrev lowest : ℕ
     lowest = least (opposed n clashes P c) n
 
-    pub parted_none : Nothing ≡ found_of n clashes P c → parted n clashes P c ≡ false
+    parted_none : None ≡ found_of n clashes P c → parted n clashes P c ≡ false
     unfolding found_of
     parted_none h = cases_of (parted n clashes P c) (λ q. go (ltb lowest n) refl h q) (λ q. q)
       where
-        go : (x : Bool) → ltb lowest n ≡ x → Nothing ≡ pick x (Pair lowest (least (against clashes P c lowest) n)) Nothing
+        go : (x : Bool) → ltb lowest n ≡ x → ◌≡◌ {A = Option (ℕ × ℕ)} None (pick x (Some (lowest, least (against clashes P c lowest) n)) None)
             → parted n clashes P c ≡ true → parted n clashes P c ≡ false
         go true e k q = let z : ◌≡◌ {A = ℕ} 0 1 = cc in absurd (omega arith)
         go false e k q =
@@ -163,14 +162,18 @@ module _ (clashes : ℕ → ℕ → Bool) (P : List ℕ) (c : ℕ) where
         let w = any_elim (against clashes P c a) n (and_right (eqb (at P a) c) _ h) in
         parted_here a w.0 w.1 (and_left (eqb (at P a) c) _ h) w.2
 
-    pub parted_pair : (a b : ℕ) → Pair a b ≡ found_of n clashes P c → parted n clashes P c ≡ true
+    parted_pair : (a b : ℕ) → Some (a, b) ≡ found_of n clashes P c → parted n clashes P c ≡ true
     unfolding found_of
     parted_pair a b h = go (ltb lowest n) refl h
       where
-        go : (x : Bool) → ltb lowest n ≡ x → Pair a b ≡ pick x (Pair lowest (least (against clashes P c lowest) n)) Nothing
+        go : (x : Bool) → ltb lowest n ≡ x → ◌≡◌ {A = Option (ℕ × ℕ)} (Some (a, b)) (pick x (Some (lowest, least (against clashes P c lowest) n)) None)
             → parted n clashes P c ≡ true
         go false e k = let z : ◌≡◌ {A = ℕ} 0 1 = cc in absurd (omega arith)
         go true e k = opposed_parts lowest (least_ok (opposed n clashes P c) n (ltb-true lowest n e))
+
+    pub found-parted : (o : Option (ℕ × ℕ)) → o ≡ found_of n clashes P c → parted n clashes P c ≡ is_some o
+    found-parted None e = parted_none e
+    found-parted (Some (a, b)) e = parted_pair a b e
 
 -- ---- the class that a round takes
 

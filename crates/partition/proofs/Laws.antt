@@ -24,12 +24,6 @@ use Rattle.partition.specs.Partition.{twin, beginning, rounded}
 abbrev pub Unlike : List ℕ → List ℕ → ℕ → ℕ → Type 0
 Unlike hues live colour i = (k : ℕ) → k < i → at hues (at live k) ≡ colour → ⊥
 
-pub unlike_more : (hues live : List ℕ) (colour i : ℕ) → Unlike hues live colour i → (at hues (at live i) ≡ colour → ⊥)
-    → Unlike hues live colour (i + 1)
-unlike_more hues live colour i h z k l e = cases_of (eqb k i)
-    (λ q. z (sym (ap (λ (x : ℕ). at hues (at live x)) (eqb-true k i q)) ∙ e))
-    (λ q. h k (omega (arith, l, eqb-false k i q)) e)
-
 -- the state at place i is the first with the colour of the one at place j
 pub twin_here : (hues live : List ℕ) (n i j : ℕ) → Rises n live → i ≤ j → j < length live → at hues (at live i) ≡ at hues (at live j)
     → Unlike hues live (at hues (at live j)) i → at live i ≡ twin (among live) hues n (at live j)

@@ -5,11 +5,12 @@ ghost use Rattle.std.specs.Prelude.{◌≡◌, ℕ, ◌+◌, ◌<◌, ◌≤◌,
 ghost use Rattle.meaning.specs.Search.{tab, at};
 ghost use Rattle.meaning.specs.Reach.{among};
 ghost use Rattle.meaning.specs.Classes.{groups};
-ghost use Rattle.table.specs.Table.{table};
 ghost use Rattle.conflicts.specs.Conflicts.{clash};
 ghost use Rattle.reach.specs.Walking.{Rises};
 ghost use Rattle.members.specs.Members.{Heads, Searched};
 ghost use Rattle.partition.specs.Partition.{twin, beginning, rounded, Holds};
+
+use table::Row;
 
 // The name of each state's class, its smallest state, 65,535 for a state in none; and the rounds made.
 #[derive(Drop)]
@@ -24,13 +25,11 @@ fn first_like(colours: &[u8; 256], live: &[u16], j: usize) -> u16
     ensures { (n : ℕ) → Rises n live.now
         → result ≡ twin (among live.now) colours.now n (at live.now j) }
 {
-    let colour = colours[arrays::wide(live[j])];
-    let mut i = 0;
-    while i < j {
-        if colours[arrays::wide(live[i])] == colour {
-            return live[i];
+    let colour = colours[usize::from(live[j])];
+    for state in &live[..j] {
+        if colours[usize::from(*state)] == colour {
+            return *state;
         }
-        i += 1;
     }
     live[j]
 }
@@ -41,45 +40,36 @@ pub fn initial(colours: &[u8; 256], live: &[u16]) -> Partition
     ensures { (n : ℕ) → n ≤ 256 → Rises n live.now
         → Holds result n (tab n (beginning (among live.now) colours.now n)) 0 }
 {
-    let mut names = arrays::fresh();
-    let mut j = 0;
-    while j < live.len() {
-        names[arrays::wide(live[j])] = first_like(colours, live, j);
-        j += 1;
+    let mut names = [65535; 256];
+    for (j, state) in live.iter().enumerate() {
+        names[usize::from(*state)] = first_like(colours, live, j);
     }
     Partition { names, rounds: 0 }
 }
 
 impl Partition {
     // Class c is split: each of its groups becomes a class, named by its first member.
-    pub fn split(
-        self,
-        targets: &[u8],
-        labels: &[u64],
-        next: &[u16; 256],
-        n: usize,
-        c: usize,
-    ) -> Partition
-        requires { Searched (table targets.now labels.now) self.names next.now n × Heads self.names n c
+    pub fn split(self, rows: &[Row], next: &[u16; 256], n: usize, c: usize) -> Partition
+        requires { Searched rows.now self.names next.now n × Heads self.names n c
             × (self.rounds < 65535) }
         ensures { Holds result n
-            (rounded groups n (clash (table targets.now labels.now) self.names) self.names c)
+            (rounded groups n (clash rows.now self.names) self.names c)
             (self.rounds + 1) }
     {
         let mut names = self.names;
         let rounds = self.rounds;
-        let mut groups = arrays::zero_bytes();
-        grouping::group(targets, labels, &names, next, n, c, &mut groups);
+        let mut groups = arrays::filled(0);
+        grouping::group(rows, &names, next, n, c, &mut groups);
         // by group: its first member, 255 until there is one. No state comes behind 255, so that it may stand for both.
-        let mut firsts = arrays::last_states();
+        let mut firsts = arrays::filled(255);
         let mut s = c;
         while s < n {
-            let g = arrays::wide_byte(groups[s]);
+            let g = usize::from(groups[s]);
             if firsts[g] == 255 {
                 firsts[g] = s as u8;
             }
-            names[s] = arrays::wide_byte(firsts[g]) as u16;
-            s = arrays::wide(next[s]);
+            names[s] = u16::from(firsts[g]);
+            s = usize::from(next[s]);
         }
         Partition {
             names,

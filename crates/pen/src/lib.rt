@@ -62,10 +62,8 @@ pub fn put_run(s: &mut [u8], at: usize, width: usize, values: &[u8])
         put_fields s.old at (replicate (length values.now) width) values.now }
 {
     let mut pen = begin(s, at);
-    let mut i = 0;
-    while i < values.len() {
-        pen = push(s, pen, width, values[i] as u64);
-        i += 1;
+    for value in values {
+        pen = push(s, pen, width, u64::from(*value));
     }
     finish(s, pen);
 }
@@ -86,18 +84,17 @@ fn get_threes(s: &[u8], at: usize, width: usize, n: usize, out: &mut [u8]) -> us
     ensures count { result ≤ n }
 {
     let low = 1u64 << width;
-    let mut i = 0;
+    let threes = n / 3;
     let mut p = at;
-    while i + 3 <= n {
+    for i in 0..threes {
         let three = bits::get(s, p, 3 * width);
         let two = three >> width;
-        out[i] = (two >> width) as u8;
-        out[i + 1] = (two % low) as u8;
-        out[i + 2] = (three % low) as u8;
+        out[3 * i] = (two >> width) as u8;
+        out[3 * i + 1] = (two % low) as u8;
+        out[3 * i + 2] = (three % low) as u8;
         p += 3 * width;
-        i += 3;
     }
-    i
+    3 * threes
 }
 
 // The same one by one.
@@ -105,11 +102,9 @@ fn get_rest(s: &[u8], at: usize, width: usize, n: usize, out: &mut [u8])
     requires { Readable at width n out.old }
     ensures { out.new ≡ fields s.now at (replicate n width) ++ drop n out.old }
 {
-    let mut i = 0;
     let mut p = at;
-    while i < n {
-        out[i] = bits::get(s, p, width) as u8;
+    for place in out[..n].iter_mut() {
+        *place = bits::get(s, p, width) as u8;
         p += width;
-        i += 1;
     }
 }

@@ -8,11 +8,13 @@ ghost use Rattle.folding.specs.Folding as folding;
 ghost use Rattle.telling.specs.ToC.{CheckToC, UnpackToC, PackToC, TraceToC, ReduceToC};
 ghost use Rattle.telling.specs.ToC.{FromDotToC, ToDotToC};
 
+use layout::Large;
+
 #[unsafe(no_mangle)]
 pub extern "C" fn pierhollow_check(file: &[u8], values: &mut [u64; 4]) -> u64
     ensures { CheckToC large file.now values.old result values.new }
 {
-    telling::checked(checking::check(file), values)
+    telling::told(checking::check::<Large>(file), values)
 }
 
 #[unsafe(no_mangle)]
@@ -25,7 +27,7 @@ pub extern "C" fn pierhollow_unpack(
     ensures { UnpackToC large file.now (unpacking.rooms colours.old edges.old)
         values.old result (unpacking.rooms colours.new edges.new) values.new }
 {
-    telling::unpacked(unpacking::unpack(file, colours, edges), values)
+    telling::told(unpacking::unpack::<Large>(file, colours, edges), values)
 }
 
 #[unsafe(no_mangle)]
@@ -40,7 +42,10 @@ pub extern "C" fn pierhollow_pack(
     ensures { PackToC large colours.now edges.now m start room.old values.old
         result room.new values.new }
 {
-    telling::packed(packing::pack(colours, edges, m, start, room), values)
+    telling::told(
+        packing::pack::<Large>(colours, edges, m, start, room),
+        values,
+    )
 }
 
 #[unsafe(no_mangle)]
@@ -53,7 +58,7 @@ pub extern "C" fn pierhollow_trace(
     ensures { TraceToC large file.now observations.now colours.old values.old
         result colours.new values.new }
 {
-    telling::traced(tracing::trace(file, observations, colours), values)
+    telling::told(tracing::trace::<Large>(file, observations, colours), values)
 }
 
 #[unsafe(no_mangle)]
@@ -66,7 +71,7 @@ pub extern "C" fn pierhollow_reduce(
     ensures { ReduceToC large file.now (folding.rooms answer.old classes.old)
         values.old result (folding.rooms answer.new classes.new) values.new }
 {
-    telling::reduced(reduction::reduce(file, answer, classes), values)
+    telling::told(reduction::reduce::<Large>(file, answer, classes), values)
 }
 
 #[unsafe(no_mangle)]
@@ -74,7 +79,7 @@ pub extern "C" fn pierhollow_from_dot(text: &[u8], room: &mut [u8], values: &mut
     ensures { FromDotToC large text.now room.old values.old result room.new
         values.new }
 {
-    telling::made(dot::from_dot(text, room), values)
+    telling::told(dot::from_dot(text, room), values)
 }
 
 #[unsafe(no_mangle)]
@@ -82,5 +87,5 @@ pub extern "C" fn pierhollow_to_dot(file: &[u8], room: &mut [u8], values: &mut [
     ensures { ToDotToC large file.now room.old values.old result room.new
         values.new }
 {
-    telling::made(dot::to_dot(file, room), values)
+    telling::told(dot::to_dot(file, room), values)
 }

@@ -5,12 +5,14 @@
 ghost use Rattle.layout.specs.Layout.{large, pocket};
 ghost use Rattle.telling.specs.ToC.{ConvertToC};
 
+use layout::{Large, Pocket};
+
 #[unsafe(no_mangle)]
 pub extern "C" fn pierhollow_to_large(file: &[u8], room: &mut [u8], values: &mut [u64; 1]) -> u64
     ensures { ConvertToC pocket large file.now room.old values.old result room.new
         values.new }
 {
-    telling::packed(converting::to_large(file, room), values)
+    telling::told(converting::to::<Large>(file, room), values)
 }
 
 #[unsafe(no_mangle)]
@@ -18,5 +20,5 @@ pub extern "C" fn pierhollow_to_pocket(file: &[u8], room: &mut [u8], values: &mu
     ensures { ConvertToC large pocket file.now room.old values.old result room.new
         values.new }
 {
-    telling::packed(converting::to_pocket(file, room), values)
+    telling::told(converting::to::<Pocket>(file, room), values)
 }

@@ -7,11 +7,13 @@ ghost use Rattle.unpacking.specs.Promise as unpacking;
 ghost use Rattle.folding.specs.Folding as folding;
 ghost use Rattle.telling.specs.ToC.{CheckToC, UnpackToC, PackToC, TraceToC, ReduceToC};
 
+use layout::Pocket;
+
 #[unsafe(no_mangle)]
 pub extern "C" fn pierhollow_pocket_check(file: &[u8], values: &mut [u64; 4]) -> u64
     ensures { CheckToC pocket file.now values.old result values.new }
 {
-    telling::checked(checking::pocket_check(file), values)
+    telling::told(checking::check::<Pocket>(file), values)
 }
 
 #[unsafe(no_mangle)]
@@ -24,7 +26,7 @@ pub extern "C" fn pierhollow_pocket_unpack(
     ensures { UnpackToC pocket file.now (unpacking.rooms colours.old edges.old)
         values.old result (unpacking.rooms colours.new edges.new) values.new }
 {
-    telling::unpacked(unpacking::pocket_unpack(file, colours, edges), values)
+    telling::told(unpacking::unpack::<Pocket>(file, colours, edges), values)
 }
 
 #[unsafe(no_mangle)]
@@ -39,7 +41,10 @@ pub extern "C" fn pierhollow_pocket_pack(
     ensures { PackToC pocket colours.now edges.now m start room.old values.old
         result room.new values.new }
 {
-    telling::packed(packing::pocket_pack(colours, edges, m, start, room), values)
+    telling::told(
+        packing::pack::<Pocket>(colours, edges, m, start, room),
+        values,
+    )
 }
 
 #[unsafe(no_mangle)]
@@ -52,7 +57,10 @@ pub extern "C" fn pierhollow_pocket_trace(
     ensures { TraceToC pocket file.now observations.now colours.old values.old
         result colours.new values.new }
 {
-    telling::traced(tracing::pocket_trace(file, observations, colours), values)
+    telling::told(
+        tracing::trace::<Pocket>(file, observations, colours),
+        values,
+    )
 }
 
 #[unsafe(no_mangle)]
@@ -65,5 +73,5 @@ pub extern "C" fn pierhollow_pocket_reduce(
     ensures { ReduceToC pocket file.now (folding.rooms answer.old classes.old)
         values.old result (folding.rooms answer.new classes.new) values.new }
 {
-    telling::reduced(reduction::pocket_reduce(file, answer, classes), values)
+    telling::told(reduction::reduce::<Pocket>(file, answer, classes), values)
 }

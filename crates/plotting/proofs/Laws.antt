@@ -8,8 +8,9 @@ use native.Mathlib.Numerals.{add-one}
 use native.Mathlib.Omega.{arith}
 use lib.ListN.{length, get_or, take, drop, length-append}
 use lib.Seq.{length-take-le, take-suc, take-add}
+use Rattle.std.proofs.lemmas.List.{get_or-take}
 use Rattle.meaning.specs.Filter.{Edge}
-use Rattle.layout.specs.declared.Profile.{Profile}
+use Rattle.layout.specs.declared.profile.Profile.{Profile}
 use Rattle.layout.specs.Layout.{edge_bits, edges_begin}
 use Rattle.layout.specs.Contents.{states_in, count_in, colours_in, placed_in, edge_at, edges_from, edges_in}
 use Rattle.layout.proofs.Bounds.{states_high, count_high}
@@ -46,6 +47,14 @@ states_fit cs i n h l =
     let lines = ap (λ (ds : List ℕ). length (state_lines 0 ds)) whole ∙ ap length (states-append 0 first rest)
     ∙ length-append (state_lines 0 first) (state_lines (0 + length first) rest) in
     omega (arith, lines, states_longer cs i (omega arith))
+
+-- what a turn over the first n colours has in hand: one of all of them
+pub colour_in_hand : (cs : List ℕ) (i n colour : ℕ) → n ≤ length cs → i < length (take n cs) → colour ≡ get_or (take n cs) i 0 →
+    (i < n) × (colour ≡ get_or cs i 0)
+colour_in_hand cs i n colour long h is =
+    let k : length (take n cs) ≡ n = length-take-le n cs long in
+    let lt : i < n = omega arith in
+    (lt, is ∙ get_or-take n cs i 0 lt)
 
 -- ---- edges
 
@@ -130,4 +139,4 @@ module _ (P : Profile) (file : List ℕ) where
   extent_is h l = rw (h, l)
 
   pub few : {colours : List ℕ} {n e : ℕ} → Plottable P file colours n e → (n ≤ 256) × (e ≤ 65536)
-  few ok = (omega (arith, ok.states, states_high P ok.usable file), omega (arith, ok.edges, count_high P ok.usable file))
+  few ok = (omega (arith, ok.states, states_high P P.usable file), omega (arith, ok.edges, count_high P P.usable file))

@@ -1,8 +1,7 @@
 -- The drawing of a file's filter, and how long it is.
 -- Assumes nothing.
 use Rattle.std.specs.Prelude.{ℕ, ◌≡◌, List, length}
-use Rattle.layout.specs.declared.Profile.{Profile}
-use Rattle.layout.specs.Code.{Usable}
+use Rattle.layout.specs.declared.profile.Profile.{Profile}
 use Rattle.layout.specs.Contents.{states_in, count_in, colours_in, edges_in}
 use Rattle.loading.specs.Loading.{Coloured}
 use Rattle.drawing.specs.Profile.{drawn, labels_of}
@@ -17,7 +16,6 @@ extent_of P file = record { length = length (text_of P file); labels = labels_of
 
 -- What is asked for drawing a file: its own colours and numbers of states and edges.
 pub record Plottable (P : Profile) (file colours : List ℕ) (n e : ℕ) : Type 0 where
-  pub usable : Usable P
   pub coloured : Coloured P file colours
   pub states : n ≡ states_in P file
   pub edges : e ≡ count_in P file

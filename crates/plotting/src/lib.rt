@@ -3,7 +3,6 @@
 
 ghost use Rattle.std.specs.Prelude.{◌≡◌, ◌+◌, ◌*◌, ◌≤◌, length, take};
 ghost use Rattle.text.specs.Decimal.{wrote};
-ghost use Rattle.layout.specs.Code.{Usable};
 ghost use Rattle.layout.specs.Contents.{edges_from};
 ghost use Rattle.drawing.specs.Profile.{labels_of, state_lines, edge_lines};
 ghost use Rattle.plotting.specs.Plot.{text_of, extent_of, Plottable};
@@ -35,30 +34,24 @@ fn states_length(colours: &[u8; 256], n: usize) -> usize
     ensures { (result ≡ length (state_lines 0 (take n colours.now))) × (result ≤ 17 * n) }
 {
     let mut length = 0;
-    let mut i = 0;
-    while i < n {
-        length += lettering::state_length(i, arrays::wide_byte(colours[i]));
-        i += 1;
+    for (i, colour) in colours[..n].iter().enumerate() {
+        length += lettering::state_length(i, usize::from(*colour));
     }
     length
 }
 
 // The length of the statements of e edges, the first of which begins at bit `begin`, and their largest label plus one, or 1.
 fn edges_extent(p: Profile, file: &[u8], begin: usize, e: usize) -> Extent
-    requires { Usable p × (begin ≤ 2096) × (e ≤ 65536) }
+    requires { (begin ≤ 2096) × (e ≤ 65536) }
     ensures { (result.length ≡ length (edge_lines (edges_from p file.now begin e)))
         × (result.labels ≡ labels_of (edges_from p file.now begin e)) × (result.length ≤ 24 * e) }
 {
     let mut length = 0;
     let mut labels = 1;
-    let mut at = begin;
-    let mut i = 0;
-    while i < e {
-        let edge = layout::edge::bare(layout::edge::read(p, file, at));
+    for placed in layout::edge::each(p, file, begin, e) {
+        let edge = layout::edge::bare(placed);
         length += lettering::edge_length(edge);
-        labels = drawing::larger(labels, edge.label + 1);
-        at += layout::edge_bits(p);
-        i += 1;
+        labels = labels.max(edge.label + 1);
     }
     Extent { length, labels }
 }
@@ -81,10 +74,8 @@ fn put_states(room: &mut [u8], begin: usize, colours: &[u8; 256], n: usize) -> u
         × (result ≡ begin + length (state_lines 0 (take n colours.now))) }
 {
     let mut at = begin;
-    let mut i = 0;
-    while i < n {
-        at = lettering::put_state(room, at, i, arrays::wide_byte(colours[i]));
-        i += 1;
+    for (i, colour) in colours[..n].iter().enumerate() {
+        at = lettering::put_state(room, at, i, usize::from(*colour));
     }
     at
 }
@@ -97,19 +88,14 @@ fn put_edges(
     first: usize,
     e: usize,
 ) -> usize
-    requires { Usable p × (first ≤ 2096) × (e ≤ 65536)
+    requires { (first ≤ 2096) × (e ≤ 65536)
         × (begin + length (edge_lines (edges_from p file.now first e)) ≤ length room.old) }
     ensures { (room.new ≡ wrote room.old begin (edge_lines (edges_from p file.now first e)))
         × (result ≡ begin + length (edge_lines (edges_from p file.now first e))) }
 {
     let mut at = begin;
-    let mut bit = first;
-    let mut i = 0;
-    while i < e {
-        let edge = layout::edge::bare(layout::edge::read(p, file, bit));
-        at = lettering::put_edge(room, at, edge);
-        bit += layout::edge_bits(p);
-        i += 1;
+    for placed in layout::edge::each(p, file, first, e) {
+        at = lettering::put_edge(room, at, layout::edge::bare(placed));
     }
     at
 }

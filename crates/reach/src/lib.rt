@@ -6,8 +6,10 @@ ghost use Rattle.std.specs.Prelude.{◌≡◌, not, ◌+◌, ◌<◌, ◌≤◌,
 ghost use Rattle.std.proofs.Math.Option.{some};
 ghost use Rattle.meaning.specs.Search.{at};
 ghost use Rattle.meaning.specs.Reach.{meet, visited, walk, reached};
-ghost use Rattle.table.specs.Table.{table, look, Rows};
+ghost use Rattle.table.specs.Table.{look, Rows};
 ghost use Rattle.reach.specs.Walking.{Queue, Walked, Walkable, Lists};
+
+use table::Row;
 
 // Follows an edge: a code that is new goes to the end of the queue, and gets its place there as its number, by which it is known
 // to be met. Answers how many codes are met.
@@ -26,39 +28,34 @@ fn meet(codes: &mut [u16; 256], numbers: &mut [u16; 256], met: usize, code: usiz
 
 // Visits state s: its edges are followed, labels ascending. Answers how many states are met.
 fn visit(
-    targets: &[u8],
-    labels: &[u64],
+    rows: &[Row],
     s: usize,
     codes: &mut [u16; 256],
     numbers: &mut [u16; 256],
     met: usize,
 ) -> usize
-    requires { Queue codes.old numbers.old met × Rows (table targets.now labels.now) (s + 1) }
+    requires { Queue codes.old numbers.old met × Rows rows.now (s + 1) }
     ensures { Walked codes.new numbers.new result
-        (visited (look (table targets.now labels.now) s) 64 (take met codes.old)) }
+        (visited (look rows.now s) 64 (take met codes.old)) }
 {
     let mut count = met;
-    let mut rest = labels[s];
-    while 0 < rest {
-        let y = sets::lowest(rest);
-        count = meet(codes, numbers, count, table::target(targets, s, y));
-        rest = sets::without_lowest(rest);
+    for y in sets::each(rows[s].labels) {
+        count = meet(codes, numbers, count, table::target(rows, s, y));
     }
     count
 }
 
 // Visits the states in the order in which they are met, from the start on, until all are met or visited. Answers how many are met.
 fn walk(
-    targets: &[u8],
-    labels: &[u64],
+    rows: &[Row],
     n: usize,
     start: usize,
     codes: &mut [u16; 256],
     numbers: &mut [u16; 256],
 ) -> usize
-    requires { Walkable (table targets.now labels.now) n start codes.old numbers.old }
+    requires { Walkable rows.now n start codes.old numbers.old }
     ensures { Walked codes.new numbers.new result
-        (walk (look (table targets.now labels.now)) 64 n start) }
+        (walk (look rows.now) 64 n start) }
 {
     let mut met = meet(codes, numbers, 0, start);
     let mut i = 0;
@@ -66,7 +63,7 @@ fn walk(
         if met == n {
             return met;
         }
-        met = visit(targets, labels, arrays::wide(codes[i]), codes, numbers, met);
+        met = visit(rows, usize::from(codes[i]), codes, numbers, met);
         i += 1;
     }
     met
@@ -78,13 +75,11 @@ fn sorted(numbers: &mut [u16; 256], n: usize) -> usize
     ensures { Lists (λ s. not (eqb (at numbers.old s) 65535)) n numbers.new result }
 {
     let mut k: usize = 0;
-    let mut s: usize = 0;
-    while s < n {
+    for s in 0..n {
         if numbers[s] != 65535 {
             numbers[k] = s as u16;
             k += 1;
         }
-        s += 1;
     }
     k
 }
@@ -92,17 +87,16 @@ fn sorted(numbers: &mut [u16; 256], n: usize) -> usize
 // The states that the start can reach, ascending, at the beginning of a list that is lent fresh. Answers how many there are. The
 // queue is lent too, and may be anything.
 pub fn live(
-    targets: &[u8],
-    labels: &[u64],
+    rows: &[Row],
     n: usize,
     start: usize,
     queue: &mut [u16; 256],
     list: &mut [u16; 256],
 ) -> usize
-    requires { Walkable (table targets.now labels.now) n start queue.old list.old }
-    ensures { Lists (reached (look (table targets.now labels.now)) 64 n start) n
+    requires { Walkable rows.now n start queue.old list.old }
+    ensures { Lists (reached (look rows.now) 64 n start) n
         list.new result × (length queue.new ≡ 256) }
 {
-    walk(targets, labels, n, start, queue, list);
+    walk(rows, n, start, queue, list);
     sorted(list, n)
 }

@@ -10,7 +10,7 @@ use Rattle.meaning.specs.Cases.{impossible, and_left, and_right}
 use Rattle.meaning.specs.Filter.{Filter, states}
 use Rattle.refusals.specs.Refusals.{Outcome, accepted, refused, Test, first_of, room_test}
 use Rattle.refusals.proofs.Laws.{numbers_below}
-use Rattle.layout.specs.declared.Profile.{Profile}
+use Rattle.layout.specs.declared.profile.Profile.{Profile}
 use Rattle.layout.specs.Layout.{fault_colour, length_of}
 use Rattle.edges.specs.Faults.{listed_from, Fault, first_fault, first_leaving, edges_then}
 use Rattle.files.specs.Files.{write_tests, write_of}

@@ -14,7 +14,7 @@ use Rattle.meaning.specs.Cases.{impossible, same²}
 use Rattle.meaning.specs.Filter.{Edge, Filter, each}
 use Rattle.refusals.specs.Refusals.{accepted, first_of}
 use Rattle.refusals.proofs.Laws.{first_accepted, onward_accepted}
-use Rattle.layout.specs.declared.Profile.{Profile}
+use Rattle.layout.specs.declared.profile.Profile.{Profile}
 use Rattle.layout.specs.Code.{Usable}
 use Rattle.layout.specs.Layout.{header_bits, edge_bits, edges_begin, length_of, written}
 use Rattle.layout.specs.Contents.{states_in, labels_in, start_in, count_in, colours_in, placed_at, placed_from, placed_in, edges_from, edges_in, filter_in}

@@ -6,7 +6,7 @@ use Prim.Native.Nat.{ℕ, ◌≤◌, ◌<◌}
 use lib.ListN.{length}
 use native.Mathlib.Omega.{arith}
 use borrow.Author.Tests.{lt-ltb, le-ltb}
-use Rattle.layout.specs.declared.Profile.{Profile}
+use Rattle.layout.specs.declared.profile.Profile.{Profile}
 use Rattle.refusals.specs.declared.Kind.TheVariants.{AnswerRoom, ClassRoom}
 use Rattle.refusals.specs.declared.Refusal.{Refusal}
 use Rattle.layout.specs.Layout.{large}
@@ -18,28 +18,28 @@ use Rattle.files.specs.Files.{check_of}
 use Rattle.files.specs.Written.{longest_files}
 use Rattle.files.proofs.Accepted.{largest_file}
 use Rattle.folding.specs.declared.Counts.{Counts}
-use Rattle.reduction.specs.declared.Reduced.TheVariants as variants
+use Rattle.std.specs.Prelude.{Ok, Err}
 use Rattle.folding.specs.Folding.{Rooms, counts_of, Folded}
 use Rattle.reduction.specs.Reducing.{reduce_tests, reduce_of}
 use Rattle.reduction.specs.Promise.{ReducePromise}
 
 module _ (P : Profile) (s : List ℕ) (room : Rooms) where
   -- a refused file ends the call with that same refusal
-  pub reduce_refused : (r : Refusal) → check_of P s ≡ refusal_outcome r → ReducePromise P s room (variants.Refused r) room
+  pub reduce_refused : (r : Refusal) → check_of P s ≡ refusal_outcome r → ReducePromise P s room (Err r) room
   unfolding reduce_of
   reduce_refused r h = promise_refused _ r _ (rw h)
 
   module _ (vs : List ℕ) (h : check_of P s ≡ accepted vs) where
-    pub reduce-short : length room.answer < length s → ReducePromise P s room (variants.Refused (record { kind = AnswerRoom; place = 0 })) room
+    pub reduce-short : length room.answer < length s → ReducePromise P s room (Err (record { kind = AnswerRoom; place = 0 })) room
     unfolding reduce_of
     reduce-short l = promise_refused _ (record { kind = AnswerRoom; place = 0 }) _ (rw (h, lt-ltb _ _ l))
 
     module _ (roomy : length s ≤ length room.answer) where
-      pub reduce_few : length room.classes < states_in P s → ReducePromise P s room (variants.Refused (record { kind = ClassRoom; place = 0 })) room
+      pub reduce_few : length room.classes < states_in P s → ReducePromise P s room (Err (record { kind = ClassRoom; place = 0 })) room
       unfolding reduce_of
       reduce_few l = promise_refused _ (record { kind = ClassRoom; place = 0 }) _ (rw (h, le-ltb _ _ roomy, lt-ltb _ _ l))
 
-      pub reduce_folded : states_in P s ≤ length room.classes → (c : Counts) (left : Rooms) → Folded P s room c left → ReducePromise P s room (variants.Accepted c) left
+      pub reduce_folded : states_in P s ≤ length room.classes → (c : Counts) (left : Rooms) → Folded P s room c left → ReducePromise P s room (Ok c) left
       unfolding reduce_of
       reduce_folded l c left made =
           rw (made.answer, made.classes) (promise_accepted _ _ _ (rw (h, le-ltb _ _ roomy, le-ltb _ _ l) (sym made.counts)))

@@ -3,11 +3,10 @@
 use Rattle.std.specs.Prelude.{ℕ, List, [], ◌∷◌}
 use Rattle.meaning.specs.Reduced.{reduced, class_list}
 use Rattle.refusals.specs.Refusals.{Lent, lent, Promise}
-use Rattle.layout.specs.declared.Profile.{Profile}
+use Rattle.layout.specs.declared.profile.Profile.{Profile}
 use Rattle.layout.specs.Layout.{written}
 use Rattle.layout.specs.Contents.{filter_in}
-use Rattle.reduction.specs.declared.Reduced.{Reduced}
-use Rattle.reduction.specs.Answers.{reduced_outcome}
+use Rattle.reduction.specs.Answers.{Reduced, reduced_outcome}
 use Rattle.folding.specs.Folding.{Rooms, both}
 use Rattle.reduction.specs.Reducing.{reduce_of}
 

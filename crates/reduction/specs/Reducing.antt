@@ -1,7 +1,7 @@
 -- What reducing answers (document 01, "Reducing", "Numbers of refusal").
 -- Assumes nothing.
 use Rattle.std.specs.Prelude.{ℕ, List, [], ◌∷◌, ltb, length}
-use Rattle.layout.specs.declared.Profile.{Profile}
+use Rattle.layout.specs.declared.profile.Profile.{Profile}
 use Rattle.layout.specs.Contents.{states_in, filter_in}
 use Rattle.refusals.specs.Refusals.{Outcome, accepted, Test, test, first_of, onward}
 use Rattle.files.specs.Files.{check_of}

@@ -14,7 +14,7 @@ use Rattle.meaning.specs.Cases.{impossible, cases_of, and_left, and_right}
 use Rattle.refusals.specs.declared.Kind.{Kind}
 use Rattle.refusals.specs.declared.Kind.TheVariants.{TooShort, Start, EdgeCount, Missing, Excess, Filling, Outside, Order, Repeated, AnswerRoom, ClassRoom, Room, Observation, Lists, Drawing, Pocket, Leaving}
 use Rattle.refusals.specs.declared.Refusal.{Refusal}
-use Rattle.refusals.specs.Refusals.{number_of, Outcome, accepted, refused, refusal_outcome, Test, first_of, onward, laid, room_after, Lent, rooms_after, Promise}
+use Rattle.refusals.specs.Refusals.{number_of, Outcome, accepted, refused, refusal_outcome, Test, first_of, onward, laid, Lent, rooms_after, Promise}
 
 -- ---- the number tells the kind
 

@@ -4,61 +4,47 @@
 ghost use Rattle.std.specs.Prelude.{◌≡◌};
 ghost use Rattle.refusals.specs.Refusals.{number_of};
 
-#[derive(Clone, Copy)]
+// Each kind with this paper's number of it.
+#[derive(Clone, Copy, Debug, PartialEq, Eq)]
 pub enum Kind {
-    TooShort,
-    Start,
-    EdgeCount,
-    Missing,
-    Excess,
-    Filling,
-    Outside,
-    Order,
-    Repeated,
-    AnswerRoom,
-    ClassRoom,
-    Room,
-    Observation,
-    Lists,
-    Drawing,
-    Pocket,
-    Leaving,
+    TooShort = 1,
+    Start = 2,
+    EdgeCount = 3,
+    Missing = 4,
+    Excess = 5,
+    Filling = 6,
+    Outside = 7,
+    Order = 8,
+    Repeated = 9,
+    AnswerRoom = 10,
+    ClassRoom = 11,
+    Room = 12,
+    Observation = 13,
+    Lists = 14,
+    Drawing = 15,
+    Pocket = 16,
+    Leaving = 17,
 }
 
-#[derive(Clone, Copy)]
+impl From<Kind> for u8 {
+    ghost from_gives = { λ kind number. number ≡ number_of kind };
+
+    fn from(kind: Kind) -> u8 {
+        kind as u8
+    }
+}
+
+#[derive(Clone, Copy, Debug, PartialEq, Eq)]
 pub struct Refusal {
     pub kind: Kind,
     pub place: usize,
 }
 
 // A refusal without a place of its own.
-pub fn plain(kind: Kind) -> Refusal
-    ensures { result ≡ record { kind = kind; place = 0 } }
-{
-    Refusal { kind, place: 0 }
-}
+impl From<Kind> for Refusal {
+    ghost from_gives = { λ kind refusal. refusal ≡ record { kind = kind; place = 0 } };
 
-// This paper's number of a kind of refusal.
-pub fn number(kind: Kind) -> u8
-    ensures { result ≡ number_of kind }
-{
-    match kind {
-        Kind::TooShort => 1,
-        Kind::Start => 2,
-        Kind::EdgeCount => 3,
-        Kind::Missing => 4,
-        Kind::Excess => 5,
-        Kind::Filling => 6,
-        Kind::Outside => 7,
-        Kind::Order => 8,
-        Kind::Repeated => 9,
-        Kind::AnswerRoom => 10,
-        Kind::ClassRoom => 11,
-        Kind::Room => 12,
-        Kind::Observation => 13,
-        Kind::Lists => 14,
-        Kind::Drawing => 15,
-        Kind::Pocket => 16,
-        Kind::Leaving => 17,
+    fn from(kind: Kind) -> Refusal {
+        Refusal { kind, place: 0 }
     }
 }

@@ -16,8 +16,8 @@ use Rattle.files.specs.Files.{check_of}
 use Rattle.files.specs.Written.{length-filter}
 use Rattle.folding.specs.declared.Counts.{Counts}
 use Rattle.folding.specs.Folding.{Rooms, counts_of}
-use Rattle.reduction.specs.declared.Reduced.{Reduced}
-use Rattle.reduction.specs.declared.Reduced.TheVariants as answers
+use Rattle.reduction.specs.Answers.{Reduced}
+use Rattle.std.specs.Prelude.{Ok, Err}
 use Rattle.reduction.specs.Answers.{reduced_outcome}
 use Rattle.reduction.specs.Reducing.{reduce_of}
 use Rattle.reduction.proofs.Calls.{roomy}
@@ -34,7 +34,7 @@ module _ (s : List ℕ) (room left : Rooms) (r : Reduced) (kept : ReducePromise 
   abbrev F : Filter
   F = filter_in large s
 
-  pub text_counts : (c : Counts) (n : ℕ) → r ≡ answers.Accepted c → n ≡ states_in large s → reduced_text n c.states c.colours c.rounds (take n left.classes) ≡ reduce_text s
+  pub text_counts : (c : Counts) (n : ℕ) → r ≡ Ok c → n ≡ states_in large s → reduced_text n c.states c.colours c.rounds (take n left.classes) ≡ reduce_text s
   unfolding reduce_text counts_of
   text_counts c n e h =
       let answer : reduce_of large s room ≡ accepted (c.states ∷ c.colours ∷ c.rounds ∷ c.length ∷ []) = sym kept.answer ∙ ap reduced_outcome e in
@@ -47,7 +47,7 @@ module _ (s : List ℕ) (room left : Rooms) (r : Reduced) (kept : ReducePromise 
       let list : take n left.classes ≡ class_list F = ap (take n) (cc (promise_laid kept answer)) ∙ laid_front (class_list F) room.classes n (entries s ∙ sym h) in
       rw (a.1, original, reduced-states, colours, rounds, list, h)
 
-  pub text_refusal : (why : Refusal) → r ≡ answers.Refused why → refusal_line (number_of why.kind) why.place ≡ reduce_text s
+  pub text_refusal : (why : Refusal) → r ≡ Err why → refusal_line (number_of why.kind) why.place ≡ reduce_text s
   unfolding reduce_text
   text_refusal why e = go (check_of large s) (sym (ap reduced_outcome e) ∙ kept.answer ∙ roomy s room long wide)
     where

@@ -6,7 +6,7 @@ ghost use Rattle.text.specs.Decimal.{wrote};
 ghost use Rattle.text.specs.Printed.{Printed};
 ghost use Rattle.report.specs.Report.{reduce_text};
 
-use reduction::Reduced;
+use layout::{Format, Large};
 
 // Puts what `reduce` prints of a file at the beginning of the room, and answers its length; nothing, and 0, where the room is
 // too short.
@@ -24,11 +24,11 @@ fn put_text(room: &mut [u8], file: &[u8]) -> usize
     ensures { (room.new ≡ wrote room.old 0 (reduce_text file.now))
         × (result ≡ length (reduce_text file.now)) × (result ≤ 10836) }
 {
-    let n = layout::states(layout::large(), file);
+    let n = layout::states(Large::profile(), file);
     let mut answer = lines::file_room();
     let mut classes = lines::class_room();
-    match reduction::reduce(file, &mut answer, &mut classes) {
-        Reduced::Accepted(counts) => lines::put_reduced(
+    match reduction::reduce::<Large>(file, &mut answer, &mut classes) {
+        Ok(counts) => lines::put_reduced(
             room,
             n,
             counts.states,
@@ -36,6 +36,6 @@ fn put_text(room: &mut [u8], file: &[u8]) -> usize
             counts.rounds,
             &classes[..n],
         ),
-        Reduced::Refused(why) => lines::put_refusal(room, 0, why),
+        Err(why) => lines::put_refusal(room, 0, why),
     }
 }

@@ -279,11 +279,11 @@ module _ (live : List ℕ) (T : Table) (hues : List ℕ) (n : ℕ) where
               turn : (f : ℕ) → run (suc f) task (now Q) ≡ run f task (now R)
               turn f = let q : chosen task (take n Q.names) < n = omega (arith, here) in rw (run, lt-ltb _ _ q, cutting)
 
-      pub running_ends : (c : ℕ) → c ≡ taken Q → n ≤ c → reduction task ≡ now Q
+      pub running_ends : taken Q ≡ n → reduction task ≡ now Q
       unfolding run
-      running_ends c e l = r.goes ∙ go r.rest
+      running_ends e = r.goes ∙ go r.rest
         where
           go : (f : ℕ) → run f task (now Q) ≡ now Q
           go zero = refl
           go (suc f) =
-              let q : n ≤ chosen task (take n Q.names) = omega (arith, e ∙ chosen_front Q.names) in rw (run, le-ltb _ _ q)
+              let q : n ≤ chosen task (take n Q.names) = omega (arith, sym e ∙ chosen_front Q.names) in rw (run, le-ltb _ _ q)

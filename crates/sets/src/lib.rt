@@ -3,7 +3,8 @@
 
 ghost use Rattle.std.specs.Prelude.{◌≡◌, not, ◌&&◌, ◌||◌, ℕ, ◌^◌, ◌≤◌, ◌<◌, eqb};
 ghost use Rattle.std.specs.Int.Count.{ones};
-ghost use Rattle.sets.specs.Sets.{holds, Lowest, Missing};
+ghost use Rattle.std.specs.Iterator.{at_most};
+ghost use Rattle.sets.specs.Sets.{holds, Lowest, Missing, Taken};
 
 // Whether k is in the set.
 pub fn holds(set: u64, k: usize) -> bool
@@ -72,6 +73,36 @@ pub fn without_lowest(set: u64) -> u64
     set & (set - 1)
 }
 
+// The numbers of a set, ascending.
+#[derive(Clone, Copy)]
+pub struct Members {
+    pub rest: u64,
+}
+
+pub fn each(set: u64) -> Members
+    ensures { result.rest ≡ set }
+{
+    Members { rest: set }
+}
+
+impl Iterator for Members {
+    type Item = usize;
+
+    ghost next_gives = { λ before item after. Taken before.rest item after.rest };
+
+    ghost remaining = { λ s. at_most s.rest };
+
+    #[inline(always)]
+    fn next(&mut self) -> Option<usize> {
+        if self.rest == 0 {
+            return None;
+        }
+        let k = lowest(self.rest);
+        self.rest = without_lowest(self.rest);
+        Some(k)
+    }
+}
+
 // A set of numbers below 256: number k is number k % 64 of word k / 64.
 #[derive(Drop)]
 pub struct Four {
@@ -83,14 +114,11 @@ impl Four {
     pub fn smallest_missing(self) -> usize
         ensures { (result ≤ 256) × Missing self.words result }
     {
-        let words = self.words;
-        let mut w: usize = 0;
-        while w < 4 {
-            let free = others(words[w]);
+        for (w, word) in self.words.iter().enumerate() {
+            let free = others(*word);
             if 0 < free {
                 return w * 64 + lowest(free);
             }
-            w += 1;
         }
         256
     }

@@ -7,9 +7,11 @@ use Prim.Native.Nat.{ℕ, ◌+◌, ◌≤◌, ◌<◌}
 use native.Mathlib.Numerals.{add-one}
 use native.Mathlib.Omega.{arith}
 use lib.ListN.{length, get_or, take}
+use Rattle.std.specs.Prelude.{Result, Ok, Err}
 use Rattle.meaning.specs.Filter.{Filter}
 use Rattle.meaning.specs.Trace.{edge, colour, shown, stops}
 use Rattle.meaning.specs.TraceLaws.{shown_count, ridden-length, halted-within}
+use Rattle.refusals.specs.declared.Refusal.{Refusal}
 use Rattle.refusals.specs.Refusals.{Outcome, accepted, refusal_outcome, laid}
 use Rattle.refusals.proofs.Laws.{laid_front, promise_laid}
 use Rattle.layout.specs.Layout.{large}
@@ -51,7 +53,7 @@ module _ (s ys room room' : List ℕ) where
     due o e = sym (e ∙ ap (trace_of large s ys) long ∙ room_enough large s ys)
 
     -- a ride that is accepted, wherever it stops
-    ridden_text : (o : Option ℕ) (k : ℕ) (r : Traced) → TracePromise large s ys room r room' → traced_outcome r ≡ ride_outcome o → (vs : List ℕ) → ride_outcome o ≡ accepted vs
+    ridden_text : (o : Option ℕ) (k : ℕ) (r : Result Traced Refusal) → TracePromise large s ys room r room' → traced_outcome r ≡ ride_outcome o → (vs : List ℕ) → ride_outcome o ≡ accepted vs
         → k ≡ shown_count o (length ys) → number_lines (take k room') ++ end_line o ≡ trace_text s ys
     unfolding trace_text
     ridden_text o k r kept e vs a n =
@@ -61,17 +63,17 @@ module _ (s ys room room' : List ℕ) where
         let here : trace_of large s ys (length ys + 1) ≡ accepted vs = due (accepted vs) (sym answer) in
         rw (colours, here, stop)
 
-    pub text_is : (r : Traced) → TracePromise large s ys room r room' → number_lines (take (shown_for r (length ys)) room') ++ last_line r ≡ trace_text s ys
+    pub text_is : (r : Result Traced Refusal) → TracePromise large s ys room r room' → number_lines (take (shown_for r (length ys)) room') ++ last_line r ≡ trace_text s ys
     unfolding trace_text last_line number_lines
-    text_is traced.All kept = ridden_text none (length ys + 1) traced.All kept refl _ refl (add-one (length ys))
-    text_is (traced.Stopped i) kept = ridden_text (some i) (i + 1) (traced.Stopped i) kept refl _ refl (add-one i)
-    text_is (traced.Refused why) kept = rw (due (refusal_outcome why) kept.answer)
+    text_is (Ok traced.All) kept = ridden_text none (length ys + 1) (Ok traced.All) kept refl _ refl (add-one (length ys))
+    text_is (Ok (traced.Stopped i)) kept = ridden_text (some i) (i + 1) (Ok (traced.Stopped i)) kept refl _ refl (add-one i)
+    text_is (Err why) kept = rw (due (refusal_outcome why) kept.answer)
 
-    pub few : (r : Traced) → TracePromise large s ys room r room' → shown_for r (length ys) ≤ 65536
+    pub few : (r : Result Traced Refusal) → TracePromise large s ys room r room' → shown_for r (length ys) ≤ 65536
     unfolding stops
-    few traced.All kept = let rode = trace_accepted large s ys (length room) _ (sym kept.answer) in omega (arith, rode_few ys (length room) rode.few_enough)
-    few (traced.Stopped i) kept =
+    few (Ok traced.All) kept = let rode = trace_accepted large s ys (length room) _ (sym kept.answer) in omega (arith, rode_few ys (length room) rode.few_enough)
+    few (Ok (traced.Stopped i)) kept =
         let rode = trace_accepted large s ys (length room) _ (sym kept.answer) in
         let stop : stops F ys ≡ some i = ride_one (stops F ys) (some i) rode.rides in
         omega (arith, rode_few ys (length room) rode.few_enough, halted-within (edge F) F.start ys i stop)
-    few (traced.Refused why) kept = omega arith
+    few (Err why) kept = omega arith

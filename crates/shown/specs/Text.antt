@@ -1,8 +1,9 @@
 -- The text that `trace` prints, a function of the bytes that it reads (document 01, "Three programs"). Bytes are ASCII.
 -- Assumes nothing.
-use Rattle.std.specs.Prelude.{ℕ, ◌+◌, List, [], ◌∷◌, ◌++◌, length}
+use Rattle.std.specs.Prelude.{Result, Ok, Err, ℕ, ◌+◌, List, [], ◌∷◌, ◌++◌, length}
 use Rattle.std.proofs.Math.Option.{Option, none, some}
 use Rattle.meaning.specs.Trace.{shown, stops}
+use Rattle.refusals.specs.declared.Refusal.{Refusal}
 use Rattle.refusals.specs.Refusals.{number_of}
 use Rattle.layout.specs.Layout.{large}
 use Rattle.layout.specs.Contents.{filter_in}
@@ -40,13 +41,13 @@ trace_text file observations =
 -- ---- of the call's answer
 
 -- The last line of what is printed.
-unfoldable pub last_line : Traced → List ℕ
-last_line traced.All = end_line none
-last_line (traced.Stopped i) = end_line (some i)
-last_line (traced.Refused r) = refusal_line (number_of r.kind) r.place
+unfoldable pub last_line : Result Traced Refusal → List ℕ
+last_line (Ok traced.All) = end_line none
+last_line (Ok (traced.Stopped i)) = end_line (some i)
+last_line (Err r) = refusal_line (number_of r.kind) r.place
 
 -- How many colours were shown for k observations.
-abbrev pub shown_for : Traced → ℕ → ℕ
-shown_for traced.All k = k + 1
-shown_for (traced.Stopped i) k = i + 1
-shown_for (traced.Refused r) k = 0
+abbrev pub shown_for : Result Traced Refusal → ℕ → ℕ
+shown_for (Ok traced.All) k = k + 1
+shown_for (Ok (traced.Stopped i)) k = i + 1
+shown_for (Err r) k = 0

@@ -7,6 +7,8 @@ ghost use Rattle.lines.specs.Text.{ended};
 ghost use Rattle.text.specs.Printed.{Printed};
 ghost use Rattle.shown.specs.Text.{stopped_word, number_lines, last_line, shown_for, trace_text};
 
+use layout::Large;
+use refusals::Refusal;
 use tracing::Traced;
 
 // Puts what `trace` prints of a file and observations at the beginning of the room, and answers its length; nothing, and 0, where
@@ -27,20 +29,20 @@ fn put_text(room: &mut [u8], file: &[u8], observations: &[u8]) -> usize
         × (result ≡ length (trace_text file.now observations.now)) × (result ≤ 262208) }
 {
     let mut colours = io::large_buffer();
-    let answer = tracing::trace(file, observations, &mut colours);
+    let answer = tracing::trace::<Large>(file, observations, &mut colours);
     let k = shown(answer, observations.len());
     put_trace(room, &colours[..k], answer)
 }
 
 // How many colours were shown.
-fn shown(answer: Traced, observations: usize) -> usize
+fn shown(answer: Result<Traced, Refusal>, observations: usize) -> usize
     requires { shown_for answer observations ≤ 65536 }
     ensures { result ≡ shown_for answer observations }
 {
     match answer {
-        Traced::All => observations + 1,
-        Traced::Stopped(i) => i + 1,
-        Traced::Refused(_) => 0,
+        Ok(Traced::All) => observations + 1,
+        Ok(Traced::Stopped(i)) => i + 1,
+        Err(_) => 0,
     }
 }
 
@@ -49,7 +51,7 @@ fn put_line(room: &mut [u8], at: usize, n: u8) -> usize
     requires { at + 21 ≤ length room.old }
     ensures { (room.new ≡ wrote room.old at (ended n)) × (result ≡ at + length (ended n)) × (result ≤ at + 4) }
 {
-    text::put_number(room, at, arrays::wide_byte(n) as u64, b'\n')
+    text::put_number(room, at, u64::from(n), b'\n')
 }
 
 // The numbers, one a line.
@@ -59,10 +61,8 @@ fn put_lines(room: &mut [u8], numbers: &[u8]) -> usize
         × (result ≡ length (number_lines numbers.now)) × (result ≤ 4 * length numbers.now) }
 {
     let mut at = 0;
-    let mut i = 0;
-    while i < numbers.len() {
-        at = put_line(room, at, numbers[i]);
-        i += 1;
+    for number in numbers {
+        at = put_line(room, at, *number);
     }
     at
 }
@@ -77,20 +77,20 @@ fn put_stop(room: &mut [u8], at: usize, i: usize) -> usize
 }
 
 // The last line of what trace prints.
-fn put_last(room: &mut [u8], at: usize, answer: Traced) -> usize
+fn put_last(room: &mut [u8], at: usize, answer: Result<Traced, Refusal>) -> usize
     requires { at + 50 ≤ length room.old }
     ensures { (room.new ≡ wrote room.old at (last_line answer)) × (result ≡ at + length (last_line answer))
         × (result ≤ at + 50) }
 {
     match answer {
-        Traced::All => text::put(room, at, b"traced\n"),
-        Traced::Stopped(i) => put_stop(room, at, i),
-        Traced::Refused(why) => lines::put_refusal(room, at, why),
+        Ok(Traced::All) => text::put(room, at, b"traced\n"),
+        Ok(Traced::Stopped(i)) => put_stop(room, at, i),
+        Err(why) => lines::put_refusal(room, at, why),
     }
 }
 
 // The colours that were shown, one a line, and the last line. Answers the length of both.
-fn put_trace(room: &mut [u8], colours: &[u8], answer: Traced) -> usize
+fn put_trace(room: &mut [u8], colours: &[u8], answer: Result<Traced, Refusal>) -> usize
     requires { 4 * length colours.now + 50 ≤ length room.old }
     ensures { (room.new ≡ wrote room.old 0 (number_lines colours.now ++ last_line answer))
         × (result ≡ length (number_lines colours.now ++ last_line answer)) × (result ≤ 4 * length colours.now + 50) }

@@ -19,8 +19,8 @@ use Rattle.files.specs.Written.{length-written, read_writable, largest-length, l
 use Rattle.folding.specs.declared.Counts.{Counts}
 use Rattle.folding.specs.Folding.{Rooms, counts_of}
 use Rattle.folding.proofs.Accepted.{reduced_writable}
-use Rattle.reduction.specs.declared.Reduced.{Reduced}
-use Rattle.reduction.specs.declared.Reduced.TheVariants as answers
+use Rattle.reduction.specs.Answers.{Reduced}
+use Rattle.std.specs.Prelude.{Ok, Err}
 use Rattle.reduction.specs.Answers.{reduced_outcome}
 use Rattle.reduction.specs.Reducing.{reduce_of}
 use Rattle.reduction.specs.Promise.{ReducePromise}
@@ -34,7 +34,7 @@ module _ (s : List ℕ) (room left : Rooms) (r : Reduced) (kept : ReducePromise 
   abbrev F : Filter
   F = filter_in large s
 
-  module _ (c : Counts) (e : r ≡ answers.Accepted c) where
+  module _ (c : Counts) (e : r ≡ Ok c) where
     answer : reduce_of large s room ≡ accepted (c.states ∷ c.colours ∷ c.rounds ∷ c.length ∷ [])
     answer = sym kept.answer ∙ ap reduced_outcome e
 
@@ -60,7 +60,7 @@ module _ (s : List ℕ) (room left : Rooms) (r : Reduced) (kept : ReducePromise 
         ∙ laid_front (written large (reduced F)) room.answer c.length (length-written large large_usable (reduced F) writable ∙ length_is)
         ∙ rw checked.1
 
-  pub nothing_written : (why : Refusal) → r ≡ answers.Refused why → (lent : List ℕ) → Printed (shrink_bytes s) lent 0 lent
+  pub nothing_written : (why : Refusal) → r ≡ Err why → (lent : List ℕ) → Printed (shrink_bytes s) lent 0 lent
   unfolding shrink_bytes
   nothing_written why e lent = go (check_of large s) (sym (ap reduced_outcome e) ∙ kept.answer ∙ roomy s room long wide)
     where

@@ -4,7 +4,7 @@
 ghost use Rattle.text.specs.Printed.{Printed};
 ghost use Rattle.shrunk.specs.Shrunk.{shrink_bytes};
 
-use reduction::Reduced;
+use layout::Large;
 
 // Puts the reduced file's bytes at the beginning of the room, and answers how many; nothing, and 0, where the room is too short.
 // Of a refused file there are none.
@@ -13,8 +13,7 @@ pub fn bytes(file: &[u8], room: &mut [u8]) -> usize
 {
     let mut answer = lines::file_room();
     let mut classes = lines::class_room();
-    let reduced = reduction::reduce(file, &mut answer, &mut classes);
-    let Reduced::Accepted(counts) = reduced else {
+    let Ok(counts) = reduction::reduce::<Large>(file, &mut answer, &mut classes) else {
         return 0;
     };
     text::print(&answer[..counts.length], room)

@@ -30,7 +30,8 @@ use Rattle.tracing.specs.Promise.{TracePromise}
 use Rattle.tracing.proofs.Calls.{trace_accepted, ride_one}
 use Rattle.folding.specs.declared.Counts.{Counts}
 use Rattle.folding.specs.Folding.{Rooms}
-use Rattle.reduction.specs.declared.Reduced.TheVariants as answers
+use Rattle.std.specs.Prelude.{Result, Ok, Err}
+use Rattle.refusals.specs.declared.Refusal.{Refusal}
 use Rattle.reduction.specs.Promise.{ReducePromise}
 use Rattle.demands.specs.Demand3.{reduced_file, Shows, reduced_file_accepted, answered, answer_is}
 
@@ -80,13 +81,13 @@ reduced_shows_63 file vs bytes accepts = shows_63 (reduced_file large file) _ (r
 -- ---- in the terms of the calls
 
 -- How many colours a trace of k observations has written: one before the first, and one after each that was taken.
-abbrev pub colour_count : Traced → ℕ → ℕ
-colour_count traced.All k = k + 1
-colour_count (traced.Stopped i) k = i + 1
-colour_count (traced.Refused why) k = 0
+abbrev pub colour_count : Result Traced Refusal → ℕ → ℕ
+colour_count (Ok traced.All) k = k + 1
+colour_count (Ok (traced.Stopped i)) k = i + 1
+colour_count (Err why) k = 0
 
 -- what a ride that was not refused has left in its room
-rode_63 : (file ys room room' vs : List ℕ) (r : Traced) (o : Option ℕ) → TracePromise large file ys room r room' → traced_outcome r ≡ accepted vs →
+rode_63 : (file ys room room' vs : List ℕ) (r : Result Traced Refusal) (o : Option ℕ) → TracePromise large file ys room r room' → traced_outcome r ≡ accepted vs →
     ride_outcome o ≡ accepted vs → StaysAt63 room' (shown_count o (length ys))
 unfolding shown stops
 rode_63 file ys room room' vs r o p is ride i j le below shows =
@@ -102,14 +103,14 @@ rode_63 file ys room room' vs r o p is ride i j le below shows =
     entry j high ∙ shows_63 file rode.checks.0 rode.checks.1 ys i j le high (sym (entry i (omega arith)) ∙ shows)
 
 -- whatever trace answers, of the colours that it has written 63 is followed by nothing else
-pub trace_63 : (file ys room room' : List ℕ) (r : Traced) → TracePromise large file ys room r room' → StaysAt63 room' (colour_count r (length ys))
-trace_63 file ys room room' traced.All p i j le l = rode_63 file ys room room' _ traced.All none p refl refl i j le (omega arith)
-trace_63 file ys room room' (traced.Stopped k) p i j le l = rode_63 file ys room room' _ (traced.Stopped k) (some k) p refl refl i j le (omega arith)
-trace_63 file ys room room' (traced.Refused why) p i j le l = absurd (omega arith)
+pub trace_63 : (file ys room room' : List ℕ) (r : Result Traced Refusal) → TracePromise large file ys room r room' → StaysAt63 room' (colour_count r (length ys))
+trace_63 file ys room room' (Ok traced.All) p i j le l = rode_63 file ys room room' _ (Ok traced.All) none p refl refl i j le (omega arith)
+trace_63 file ys room room' (Ok (traced.Stopped k)) p i j le l = rode_63 file ys room room' _ (Ok (traced.Stopped k)) (some k) p refl refl i j le (omega arith)
+trace_63 file ys room room' (Err why) p i j le l = absurd (omega arith)
 
 -- if reduce answers with a file, the bytes that it has written have no edge that leaves 63, and whatever is observed, once they have
 -- shown 63 they show it to the end
-pub reduce_63 : (file : List ℕ) (found left : Rooms) (c : Counts) → Bytes file → ReducePromise large file found (answers.Accepted c) left →
+pub reduce_63 : (file : List ℕ) (found left : Rooms) (c : Counts) → Bytes file → ReducePromise large file found (Ok c) left →
     let bytes = take c.length left.answer in
     NoneLeaves63 bytes × ((ys : List ℕ) → StaysAt63 (Shows large bytes ys) (length (Shows large bytes ys)))
 reduce_63 file found left c bytes p =

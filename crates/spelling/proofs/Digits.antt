@@ -3,11 +3,11 @@
 use mathlib.Core.Path.{◌≡◌, refl, ap}
 use mathlib.Core.Bool.{true, false}
 use mathlib.Core.List.{List}
-use Prim.Native.Nat.{ℕ, ◌+◌, ◌%◌, ◌≤◌, ◌<◌}
+use Prim.Native.Nat.{ℕ, ◌+◌, ◌≤◌, ◌<◌}
 use native.Mathlib.Omega.{arith}
-use lib.Dec.{eqb, leb}
+use lib.Dec.{eqb}
 use lib.ListN.{length, get_or-eq_default}
-use borrow.Author.Tests.{leb-true, leb-false, lt-ltb, le-ltb, eq-eqb, ne_eqb}
+use borrow.Author.Tests.{lt-ltb, le-ltb, eq-eqb, ne_eqb}
 use Rattle.meaning.specs.Cases.{cases_of}
 use Rattle.spelling.specs.Spelling.{digit_of, digit_at, clipped, numeral, number_at}
 
@@ -16,18 +16,6 @@ no_digit d h = rw (le-ltb d 10 (omega arith))
 
 pub a_digit : (d : ℕ) → d ≤ 9 → clipped d ≡ d
 a_digit d h = rw (lt-ltb d 10 (omega arith))
-
--- a byte less 48, in eight bits
-pub byte_digit : (b : ℕ) → b < 256 → digit_of b ≡ clipped ((b + 208) % 256)
-byte_digit b h = cases_of (leb 48 b)
-    (λ low. let l = leb-true 48 b low in
-    let r : (b + 208) % 256 + 48 ≡ b = omega arith in
-    cases_of (leb b 57)
-    (λ high. let k = leb-true b 57 high in rw (low, high, a_digit ((b + 208) % 256) (omega arith)) (omega arith))
-    (λ high. let k = leb-false b 57 high in rw (low, high, no_digit ((b + 208) % 256) (omega arith))))
-    (λ low. let l = leb-false 48 b low in
-    let r : (b + 208) % 256 ≡ b + 208 = omega arith in
-    rw (low, no_digit ((b + 208) % 256) (omega arith)))
 
 pub past_end : (text : List ℕ) (at : ℕ) → length text ≤ at → digit_at text at ≡ 10
 unfolding digit_at

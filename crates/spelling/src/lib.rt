@@ -16,51 +16,36 @@ pub fn matched(text: &[u8], at: usize, word: &[u8]) -> usize
     requires { at ≤ length text.now }
     ensures { result ≡ matched text.now at word.now }
 {
-    let mut i = 0;
-    while i < word.len() {
-        if text.len() - at <= i {
-            return i;
-        }
-        if text[at + i] != word[i] {
-            return i;
-        }
-        i += 1;
-    }
-    i
+    text[at..]
+        .iter()
+        .zip(word)
+        .take_while(|(byte, wanted)| byte == wanted)
+        .count()
 }
 
-// Whether a word stands in the text from `at` on. All of its bytes are compared, so that it is one comparison in the processor.
+// Whether a word stands in the text from `at` on. A word that is known when this is compiled is one comparison in the processor.
 pub fn stands(text: &[u8], at: usize, word: &[u8]) -> bool
     requires { at ≤ length text.now }
     ensures { result ≡ eqb (matched text.now at word.now) (length word.now) }
 {
-    if text.len() - at < word.len() {
-        return false;
-    }
-    let mut same = 0usize;
-    let mut i = 0;
-    while i < word.len() {
-        same += (text[at + i] == word[i]) as usize;
-        i += 1;
-    }
-    same == word.len()
+    text[at..].starts_with(word)
 }
 
 // What a byte is as a digit; 10 or more where it is none.
 fn digit(byte: u8) -> usize
     ensures { (digit_of byte ≡ clipped result) × (result < 256) }
 {
-    (arrays::wide_byte(byte) + 208) % 256
+    usize::from(byte.wrapping_sub(b'0'))
 }
 
 // The digit that stands at a place of the text; 10 or more where none does.
 pub fn digit_at(text: &[u8], at: usize) -> usize
     ensures { (digit_at text.now at ≡ clipped result) × (result < 256) }
 {
-    if text.len() <= at {
+    let Some(byte) = text.get(at) else {
         return 10;
-    }
-    digit(text[at])
+    };
+    digit(*byte)
 }
 
 // The number of the digits at three places, the first of which is `at`.

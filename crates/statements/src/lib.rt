@@ -1,25 +1,28 @@
 // One statement of a drawing, read from a text where it stands. A place is counted from the beginning of the text.
 #![tactic(auto)]
 
-ghost use Rattle.std.specs.Prelude.{◌≡◌, ◌≤◌, ◌<◌, ◌^◌, eqb, length, get_or};
-ghost use Rattle.drawing.specs.Reader.{labelled_at, closing_at, begins_state, statement_at, statement_of, line_at};
+ghost use Rattle.std.specs.Prelude.{◌≡◌, ◌+◌, ◌≤◌, ◌<◌, ◌^◌, eqb, length, get_or};
+ghost use Rattle.drawing.specs.Reader.{closing_at, begins_state, statement_at, statement_of, line_at};
 
-use drawing::{Labelled, Line, Statement};
+use drawing::{Line, Outside, Statement};
 use layout::edge::Edge;
+use spelling::Number;
 
 // The closing brace and its newline.
-fn closing_at(text: &[u8], at: usize) -> Statement
+fn closing_at(text: &[u8], at: usize) -> Result<Statement, Outside>
     requires { at ≤ length text.now }
     ensures { result ≡ closing_at text.now at }
 {
     if !spelling::stands(text, at, b"}\n") {
-        return Statement::Outside(at + spelling::matched(text, at, b"}\n"));
+        return Err(Outside {
+            place: at + spelling::matched(text, at, b"}\n"),
+        });
     }
-    Statement::Closing(at + 2)
+    Ok(Statement::Closing(at + 2))
 }
 
 // The statement that begins at `at`, where a state's has the number `next`.
-pub fn statement_at(text: &[u8], at: usize, next: usize) -> Statement
+pub fn statement_at(text: &[u8], at: usize, next: usize) -> Result<Statement, Outside>
     requires { at ≤ length text.now }
     ensures { result ≡ statement_at text.now at next }
 {
@@ -29,37 +32,25 @@ pub fn statement_at(text: &[u8], at: usize, next: usize) -> Statement
     let first = spelling::number_at(text, at);
     let behind = first.end;
     let state = begins_state(text, behind, first.value, next);
-    let target = drawing::target_at(text, behind, state);
-    match target {
-        Labelled::Value(to, end) => rest_at(text, end, state, first.value, to),
-        Labelled::Outside(place) => Statement::Outside(place),
-    }
+    let target = drawing::target_at(text, behind, state)?;
+    // Labels of both kinds are read here, so that the reading is inlined.
+    let label = drawing::label_at(text, target.end)?;
+    Ok(statement_of(state, first.value, target.value, label))
 }
 
-// The rest of a statement, which is its label. Labels of both kinds are read here, so that the reading is inlined.
-fn rest_at(text: &[u8], at: usize, state: bool, source: usize, target: usize) -> Statement
-    requires { at ≤ length text.now }
-    ensures { result ≡ statement_of state source target (labelled_at text.now at) }
-{
-    match drawing::label_at(text, at) {
-        Labelled::Value(label, end) => statement_of(state, source, target, label, end),
-        Labelled::Outside(place) => Statement::Outside(place),
-    }
-}
-
-fn statement_of(state: bool, source: usize, target: usize, label: usize, end: usize) -> Statement
-    ensures { result ≡ statement_of state source target (Labelled.Value label end) }
+fn statement_of(state: bool, source: usize, target: usize, label: Number) -> Statement
+    ensures { Ok result ≡ statement_of state source target (Ok label) }
 {
     if state {
-        return Statement::State(label, end);
+        return Statement::State(label.value, label.end);
     }
     Statement::Edge(
         Edge {
             source,
-            label,
+            label: label.value,
             target,
         },
-        end,
+        label.end,
     )
 }
 
@@ -78,10 +69,7 @@ fn begins_state(text: &[u8], at: usize, number: usize, next: usize) -> bool
 fn bracket_at(text: &[u8], at: usize) -> bool
     ensures { result ≡ eqb (get_or text.now at 0) 91 }
 {
-    if text.len() <= at {
-        return false;
-    }
-    text[at] == b'['
+    text.get(at) == Some(&b'[')
 }
 
 // The edge whose statement begins at `at`, in a text of the profile: its words need no second look.
@@ -90,29 +78,23 @@ pub fn line_at(text: &[u8], at: usize) -> Line
     ensures { result ≡ line_at text.now at }
 {
     if text.len() < at + 21 {
-        return last_line_at(text, at);
+        let source = spelling::number_at(text, at);
+        let target = spelling::number_at(text, source.end + 4);
+        return line(source, target, spelling::number_at(text, target.end + 8));
     }
     let source = spelling::short_at(text, at);
     let target = spelling::short_at(text, source.end + 4);
-    let label = spelling::short_at(text, target.end + 8);
-    Line {
-        edge: Edge {
-            source: source.value,
-            label: label.value,
-            target: target.value,
-        },
-        end: label.end + 3,
-    }
+    line(source, target, spelling::short_at(text, target.end + 8))
 }
 
-// The same near the end of the text.
-fn last_line_at(text: &[u8], at: usize) -> Line
-    requires { at < 2 ^ 63 }
-    ensures { result ≡ line_at text.now at }
+// An edge from its numbers, the last of which is its label.
+fn line(source: Number, target: Number, label: Number) -> Line
+    requires { label.end + 3 < 2 ^ 64 }
+    ensures { result ≡ record {
+      edge = record { source = source.value; label = label.value; target = target.value };
+      end = label.end + 3;
+    } }
 {
-    let source = spelling::number_at(text, at);
-    let target = spelling::number_at(text, source.end + 4);
-    let label = spelling::number_at(text, target.end + 8);
     Line {
         edge: Edge {
             source: source.value,

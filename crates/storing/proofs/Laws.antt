@@ -18,15 +18,14 @@ use Rattle.meaning.specs.Cases.{cases_of}
 use Rattle.meaning.specs.Reduced.{has, cell, row, listed}
 use Rattle.meaning.specs.Listing.{cells, cells_max, listed-length}
 use Rattle.meaning.specs.Filter.{Edge}
-use Rattle.layout.specs.declared.Profile.{Profile}
+use Rattle.layout.specs.declared.profile.Profile.{Profile}
 use Rattle.layout.specs.Layout.{edge_widths, flat}
-use Rattle.layout.specs.Code.{Usable}
 use Rattle.layout.proofs.EdgeLists.{flat_append, widths_append, total_edges}
 use Rattle.layout.proofs.Bounds.{edges_high}
 use Rattle.sets.specs.Sets.{holds, Lowest}
 use Rattle.sets.proofs.Laws.{From, from_all, from_above, from_gap, from_next, from_none}
-use Rattle.table.specs.Table.{Table, look}
-use Rattle.table.proofs.Laws.{look-has}
+use Rattle.table.specs.Table.{Table, row as row_of, look}
+use Rattle.table.proofs.Laws.{look_none, look-has}
 use Rattle.storing.specs.Stored.{led, row_edge, EdgesDrawn}
 
 pub led_none : (list : List ℕ) → led list none ≡ none
@@ -42,6 +41,10 @@ unfolding led
 led-has list none = refl
 led-has list (some t) = refl
 
+-- a label that is not in a row's set has no edge
+pub row_without : (T : Table) (order list : List ℕ) (k y : ℕ) → holds (row_of T (at order k)).labels y ≡ false → row_edge T order list k y ≡ none
+row_without T order list k y h = ap (led list) (look_none T (at order k) y h) ∙ led_none list
+
 -- ---- counted
 
 pub cells_more : (q : ℕ → ℕ → Bool) (k m : ℕ) → cells q (k + 1) m ≡ cells q k m + count (q k) m
@@ -54,7 +57,7 @@ cells_cong p q zero m h = refl
 cells_cong p q (suc n) m h = ap₂ (λ (i j : ℕ). i + j) (cells_cong p q n m h) (count_cong (p n) (q n) m (h n))
 
 -- the edges are as many as the rows have labels
-pub listed-counted : (T : Table) (order list : List ℕ) (n : ℕ) → cells (λ k y. holds (at T.labels (at order k)) y) n 64 ≡ length (listed (row_edge T order list) n 64)
+pub listed-counted : (T : Table) (order list : List ℕ) (n : ℕ) → cells (λ k y. holds (row_of T (at order k)).labels y) n 64 ≡ length (listed (row_edge T order list) n 64)
 listed-counted T order list n =
     cells_cong _ _ n 64 (λ k y h. sym (led-has list (look T (at order k) y) ∙ look-has T (at order k) y h)) ∙ sym (listed-length (row_edge T order list) n 64)
 
@@ -103,13 +106,13 @@ pub edges_drawn : {s₀ : List ℕ} {at : ℕ} {s s' : List ℕ} {pen pen' : Pen
 edges_drawn p es fs d e = rw (length-append es fs, widths_append p (length es) (length fs), flat_append es fs) (drawn-behind d e)
 
 -- edges as many as a table can have end where a pen can go on
-edges_near : {p : Profile} {s₀ : List ℕ} {at : ℕ} {s : List ℕ} {pen : Pen} (es : List Edge) → Usable p →
+edges_near : (p : Profile) {s₀ : List ℕ} {at : ℕ} {s : List ℕ} {pen : Pen} (es : List Edge) →
     EdgesDrawn p s₀ at es s pen → length es ≤ 65536 → place_of pen ≤ at + 1572864
-edges_near {p} es ok d few = omega (arith, d.place, total_edges p (length es), edges_high p ok (length es) few)
+edges_near p es d few = omega (arith, d.place, total_edges p (length es), edges_high p p.usable (length es) few)
 
-pub listed_near : {p : Profile} {s₀ : List ℕ} {at : ℕ} {s : List ℕ} {pen : Pen} (next : ℕ → ℕ → Option ℕ) (k : ℕ) → Usable p →
+pub listed_near : (p : Profile) {s₀ : List ℕ} {at : ℕ} {s : List ℕ} {pen : Pen} (next : ℕ → ℕ → Option ℕ) (k : ℕ) →
     EdgesDrawn p s₀ at (listed next k 64) s pen → k ≤ 256 → place_of pen ≤ at + 1572864
-listed_near next k ok d h = edges_near (listed next k 64) ok d (omega (arith, listed_few next k))
+listed_near p next k d h = edges_near p (listed next k 64) d (omega (arith, listed_few next k))
 
 -- The row of a state with the labels `set`, drawn up to a label; `rest` holds the labels from there on.
 pub record RowUpTo (p : Profile) (next : ℕ → Option ℕ) (k set : ℕ) (s₀ : List ℕ) (at : ℕ) (s : List ℕ) (pen : Pen) (rest : ℕ)
@@ -131,8 +134,8 @@ row-begun p next k set s pen h = record {
 
 module _ {p : Profile} {next : ℕ → Option ℕ} {k set : ℕ} {s₀ : List ℕ} {at : ℕ} {s : List ℕ} {pen : Pen} {rest : ℕ}
     (r : RowUpTo p next k set s₀ at s pen rest) where
-  pub row_near : Usable p → place_of pen ≤ at + 1572864
-  row_near ok = edges_near (row next k r.label) ok r.edges (omega (arith, row_few next k r.label, r.most))
+  pub row_near : place_of pen ≤ at + 1572864
+  row_near = edges_near p (row next k r.label) r.edges (omega (arith, row_few next k r.label, r.most))
 
   module _ (only : (j : ℕ) → holds set j ≡ false → next j ≡ none) where
     pub row_more : (y t : ℕ) → y < 64 → Lowest rest y → next y ≡ some t → {s' : List ℕ} {pen' : Pen} {rest' : ℕ}

@@ -8,9 +8,8 @@ use Rattle.meaning.specs.Reduced.{listed}
 use Rattle.pen.specs.declared.Pen.{Pen}
 use Rattle.pen.specs.Runs.{place_of, Ready, Drawn}
 use Rattle.refusals.specs.Refusals.{accepted}
-use Rattle.layout.specs.declared.Profile.{Profile}
+use Rattle.layout.specs.declared.profile.Profile.{Profile}
 use Rattle.layout.specs.Layout.{edge_widths, flat, length_of}
-use Rattle.layout.specs.Code.{Usable}
 use Rattle.files.specs.Files.{write_of}
 use Rattle.table.specs.Table.{Table, look, Rows}
 
@@ -42,7 +41,6 @@ Packable p F room = write_of p F true room ≡ accepted (length_of p F ∷ [])
 
 -- The rows in their order can be written: they stand in the table, labels are below a limit, and numbers fit their fields.
 pub record Storable (p : Profile) (T : Table) (order list : List ℕ) (limit : ℕ) : Type 0 where
-  pub usable : Usable p
   pub states : length order ≤ 2 ^ p.states
   pub rows : (k : ℕ) → k < length order → Rows T (at order k + 1)
   pub label : (k y t : ℕ) → k < length order → look T (at order k) y ≡ some t → y < limit

@@ -17,9 +17,10 @@ use Rattle.meaning.specs.Fault.{leaves}
 use Rattle.refusals.specs.declared.Refusal.{Refusal}
 use Rattle.layout.specs.declared.edge.Edge.{Edge}
 use Rattle.layout.specs.Code.{edge_of, Small}
-use Rattle.edges.specs.declared.Verdict.TheVariants as verdict
+use Rattle.std.specs.Prelude.{Ok, Err, None}
+use Rattle.std.specs.Result.{is_err}
 use Rattle.edges.specs.Faults.{listed_at, listed_from, Fault, edge_fault, or_else, first_fault, first_leaving}
-use Rattle.edges.specs.Walk.{fault_is, fault_of, rank_of, Tested}
+use Rattle.edges.specs.Walk.{Verdict, fault_is, fault_of, rank_of, Tested}
 use Rattle.edges.proofs.Tests.{else_else, else_none, ranked_none, ranked_edge, clear_ends}
 use Rattle.surveying.specs.declared.Testing.{Testing}
 use Rattle.surveying.specs.Surveys.{smaller, fault_among, bytes, last_of, leaving_is, leaving_by, Judged, JudgedOn}
@@ -115,8 +116,17 @@ large_fault n i before e h = cases_of (leb (smaller n 256) e.source) (λ q. rw q
 
 -- ---- one edge more
 
+-- what a verdict is, by its test
+faulty : (v : Verdict) → is_err v ≡ true → (r : Refusal) × (v ≡ Err r)
+faulty (Ok passed) h = absurd cc
+faulty (Err r) h = (r, refl)
+
+faultless : (v : Verdict) → is_err v ≡ false → v ≡ Ok tt
+faultless (Ok passed) h = refl
+faultless (Err r) h = absurd cc
+
 abbrev pub untested : Testing
-untested = record { verdict = verdict.Faultless; last = 0; leaving = 0 }
+untested = record { verdict = Ok tt; last = 0; leaving = None }
 
 pub judged_untested : (fault : Option ℕ) → Judged fault [] [] untested
 unfolding first_fault first_leaving listed_from last_of
@@ -128,20 +138,21 @@ unfolding first_fault first_leaving listed_from
 judged_none fault cs ds t j = record { own = j.own; ranked = j.ranked; leaving = j.leaving }
 
 module _ (n : ℕ) (words : List ℕ) (i : ℕ) (e : Edge) (t : Testing) where
-  pub judged_faulty : (r : Refusal) → t.verdict ≡ verdict.Faulty r → JudgedOn n words i e t t
-  judged_faulty r v fault cs es states m count j =
-      let f : fault_of t.verdict ≡ fault_is r = ap fault_of v in
+  pub judged_faulty : is_err t.verdict ≡ true → JudgedOn n words i e t t
+  judged_faulty v fault cs es states m count j =
+      let r = faulty t.verdict v in
+      let f : fault_of t.verdict ≡ fault_is r.0 = ap fault_of r.1 in
       record {
         own = f ∙ sym (fault_kept (length cs) es (edge_of e) _ (sym j.own ∙ f));
         ranked = λ z. impossible (cc (z, f));
         leaving = λ z. impossible (cc (z, f));
       }
 
-  module _ (t' : Testing) (v : t.verdict ≡ verdict.Faultless) where
+  module _ (t' : Testing) (v : is_err t.verdict ≡ false) where
     -- what the edge's own fault is
     judged_by : (fault : Option ℕ) (cs : List ℕ) (es : List meaning.Edge) → length cs ≡ n → length es ≡ i → Judged fault cs es t →
         fault_among (length cs) (es ++ (edge_of e ∷ [])) ≡ edge_fault (smaller n 256) 256 (last_of none es) (listed_at i (edge_of e))
-    judged_by fault cs es states count j = fault_more (length cs) es (edge_of e) (sym j.own ∙ ap fault_of v) ∙ rw (states, count)
+    judged_by fault cs es states count j = fault_more (length cs) es (edge_of e) (sym j.own ∙ ap fault_of (faultless t.verdict v)) ∙ rw (states, count)
 
     pub judged_outside : bytes e ≡ false → fault_of t'.verdict ≡ some (record { number = 7; place = i }) → JudgedOn n words i e t t'
     judged_outside b h fault cs es states m count j = record {
@@ -154,11 +165,11 @@ module _ (n : ℕ) (words : List ℕ) (i : ℕ) (e : Edge) (t : Testing) where
         leaving_is t'.leaving ≡ or_else (leaving_is t.leaving) (leaving_by words i e) → JudgedOn n words i e t t'
     judged_tested b h l found fault cs es states m count j =
         let small = small_edge e b in
-        let own = h (last_of none es) (j.ranked (ap fault_of v)) in
+        let own = h (last_of none es) (j.ranked (ap fault_of (faultless t.verdict v))) in
         record {
           own = own ∙ sym (judged_by fault cs es states count j ∙ small_fault n i (last_of none es) e small);
           ranked = λ z. rw (last_more none es (edge_of e)) (ranked_edge t'.last (edge_of e) l small.label);
           leaving = λ z. let ends = clear_ends n 256 (last_of none es) (listed_at i (edge_of e)) (sym own ∙ z) in
               let here = leaving_by_lem fault cs words i e m small (rw states ends.0) (rw states ends.1) in
-              found ∙ sym (leaving_more fault cs es (edge_of e) ∙ rw (count, here, j.leaving (ap fault_of v)));
+              found ∙ sym (leaving_more fault cs es (edge_of e) ∙ rw (count, here, j.leaving (ap fault_of (faultless t.verdict v))));
         }

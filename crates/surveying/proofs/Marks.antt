@@ -1,11 +1,10 @@
 -- Marks of the states of the fault colour: none, one state more, and what they tell of an edge.
 -- Assumes nothing.
-use Prim.Native.Nat.{ℕ, zero, suc, ◌-◌, ◌/◌, ◌%◌, ◌≤◌, ◌<◌}
+use Prim.Native.Nat.{ℕ, ◌/◌, ◌%◌, ◌≤◌, ◌<◌}
 use mathlib.Core.Path.{◌≡◌, refl, sym, ◌∙◌}
 use mathlib.Core.Bool.{false, ◌&&◌, ◌||◌, and-true, and-false, or-false}
 use mathlib.Core.List.{List, [], ◌∷◌, ◌++◌}
 use mathlib.Core.Option.{Option, none, some}
-use native.Mathlib.Numerals.{unary_clauses}
 use native.Mathlib.Omega.{arith}
 use lib.Dec.{eqb, ltb}
 use lib.ListN.{length, set, replicate, length-append, length-set, length-replicate, get_or-append}
@@ -19,7 +18,7 @@ use Rattle.sets.proofs.FourLaws.{contains_none, contains_with}
 use Rattle.layout.specs.declared.edge.Edge.{Edge}
 use Rattle.layout.specs.Code.{edge_of, Small}
 use Rattle.edges.specs.Faults.{listed_at, first_leaving}
-use Rattle.surveying.specs.Surveys.{has_fault_colour, Marked, MarkedOn, leaving_is, leaving_by}
+use Rattle.surveying.specs.Surveys.{has_fault_colour, Marked, MarkedOn, leaving_by}
 
 -- ---- one state more
 
@@ -75,11 +74,6 @@ module _ (k c : ℕ) (words : List ℕ) where
   }
 
 -- ---- one edge
-
--- a number other than 0 is that of an edge
-pub leaving_some : (k : ℕ) → (k ≡ 0 → ⊥) → leaving_is k ≡ some (record { number = 17; place = k - 1 })
-leaving_some zero d = absurd (d refl)
-leaving_some (suc i) d = simp unary_clauses
 
 -- an edge between states that a file can have leaves the fault colour where the marks tell it
 pub leaving_by_lem : (fault : Option ℕ) (colours words : List ℕ) (i : ℕ) (e : Edge) → Marked fault colours words →

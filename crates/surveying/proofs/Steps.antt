@@ -9,6 +9,7 @@ use native.Mathlib.Omega.{arith}
 use lib.ListN.{length, replicate, length-append}
 use borrow.Author.Tests.{le-ltb}
 use lib.Dec.{eqb}
+use Rattle.std.specs.Prelude.{Ok}
 use Rattle.meaning.specs.Pick.{pick}
 use Rattle.meaning.specs.Cases.{cases_of}
 use Rattle.meaning.specs.Filter as meaning
@@ -20,7 +21,7 @@ use Rattle.spelling.specs.Spelling.{matched}
 use Rattle.spelling.specs.Words.{stands-inside, matched-inside}
 use Rattle.drawing.specs.Profile.{opening, larger, state_line, state_lines, labels_of}
 use Rattle.drawing.specs.declared.Statement.TheVariants as statement
-use Rattle.drawing.specs.Reader.{behind, statement_at, statements_from, read_of, no_state}
+use Rattle.drawing.specs.Reader.{leaves_at, behind, statement_at, statements_from, read_of, no_state}
 use Rattle.drawing.specs.Lines.{short_parts, statement_state, statement_edge, state_longer, edge_longer}
 use Rattle.surveying.specs.declared.Survey.{Survey}
 use Rattle.surveying.specs.declared.Testing.{Testing}
@@ -93,7 +94,7 @@ module _ (fault : Option ℕ) (text : List ℕ) (at : ℕ) (s : Survey) (words :
   edges_are : length f.edges ≡ s.edges
   edges_are = sym (ap (λ (x : Survey). x.edges) f.survey)
 
-  pub step_state : (c end : ℕ) (words' : List ℕ) → statement_at text at s.next ≡ statement.State c end → MarkedOn fault s.states c words words' →
+  pub step_state : (c end : ℕ) (words' : List ℕ) → statement_at text at s.next ≡ Ok (statement.State c end) → MarkedOn fault s.states c words words' →
       SoFar fault text end (with_state s c end) words' t
   step_state c end words' e on =
       let st = statement_state text at s.next c end f.inside e in
@@ -119,7 +120,7 @@ module _ (fault : Option ℕ) (text : List ℕ) (at : ℕ) (s : Survey) (words :
         read = read_on ∙ rw (e, none, add-one s.next, ← less.0) (joined_state f.colours [] c (statements_from f.left text end (suc s.next)));
       }
 
-  pub step_edge : (g : Edge) (end : ℕ) (t' : Testing) → statement_at text at s.next ≡ statement.Edge g end → JudgedOn s.states words s.edges g t t' →
+  pub step_edge : (g : Edge) (end : ℕ) (t' : Testing) → statement_at text at s.next ≡ Ok (statement.Edge g end) → JudgedOn s.states words s.edges g t t' →
       SoFar fault text end (with_edge s g.label) words t'
   step_edge g end t' e on =
       let st = statement_edge text at s.next g end f.inside e in
@@ -141,12 +142,12 @@ module _ (fault : Option ℕ) (text : List ℕ) (at : ℕ) (s : Survey) (words :
       }
 
   -- the next statement has bytes, and ends inside the text; its number is short
-  pub state_on : (c end : ℕ) → statement_at text at s.next ≡ statement.State c end → (at < end) × (end ≤ length text) × (c < 1000)
+  pub state_on : (c end : ℕ) → statement_at text at s.next ≡ Ok (statement.State c end) → (at < end) × (end ≤ length text) × (c < 1000)
   state_on c end e =
       let st = statement_state text at s.next c end f.inside e in
       (state_longer s.next c st.2, stands-inside st.2 f.inside, st.1)
 
-  pub edge_on : (g : Edge) (end : ℕ) → statement_at text at s.next ≡ statement.Edge g end → (at < end) × (end ≤ length text) × (g.label < 1000)
+  pub edge_on : (g : Edge) (end : ℕ) → statement_at text at s.next ≡ Ok (statement.Edge g end) → (at < end) × (end ≤ length text) × (g.label < 1000)
   edge_on g end e =
       let st = statement_edge text at s.next g end f.inside e in
       (edge_longer (edge_of g) st.1, stands-inside st.1 f.inside, (short_parts (edge_of g) st.0).1)
@@ -160,14 +161,14 @@ module _ (fault : Option ℕ) (text : List ℕ) (at : ℕ) (s : Survey) (words :
       go (some x) z = rw (sym f.judged.own ∙ z)
 
   -- what is found at the end
-  pub closed_is : (end : ℕ) → statement_at text at s.next ≡ statement.Closing end →
+  pub closed_is : (end : ℕ) → statement_at text at s.next ≡ Ok (statement.Closing end) →
       pick (eqb end (length text)) (inside s (or_else (fault_of t.verdict) (leaving_is t.leaving))) (leaves end) ≡ surveyed fault (read_of text)
   unfolding joined
   closed_is end e = cases_of (eqb end (length text))
       (λ q. rw (read_on, e, q) (rw (append-nil f.colours, append-nil f.edges) (ap₂ inside f.survey told_is)))
       (λ q. rw (read_on, e, q))
 
-  pub outside_is : (place : ℕ) → statement_at text at s.next ≡ statement.Outside place → surveyed fault (read_of text) ≡ leaves place
+  pub outside_is : (place : ℕ) → statement_at text at s.next ≡ leaves_at place → surveyed fault (read_of text) ≡ leaves place
   unfolding joined
   outside_is place e = rw (read_on, e)
 

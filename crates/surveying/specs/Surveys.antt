@@ -1,6 +1,7 @@
 -- What has to be known of a drawing before its file is written.
 -- Assumes nothing.
-use Rattle.std.specs.Prelude.{ℕ, zero, suc, ◌+◌, ◌<◌, ◌^◌, ◌≡◌, Bool, false, not, ◌&&◌, List, [], ◌∷◌, ◌++◌, eqb, ltb, length}
+use Rattle.std.specs.Prelude as rust
+use Rattle.std.specs.Prelude.{Result, Ok, Err, ℕ, suc, ◌+◌, ◌<◌, ◌^◌, ◌≡◌, Bool, false, not, ◌&&◌, List, [], ◌∷◌, ◌++◌, eqb, ltb, length}
 use Rattle.std.proofs.Math.Option.{Option, none, some}
 use Rattle.meaning.specs.Pick.{pick}
 use Rattle.meaning.specs.Search.{at}
@@ -9,12 +10,11 @@ use Rattle.sets.specs.Sets.{contains}
 use Rattle.layout.specs.declared.edge.Edge.{Edge}
 use Rattle.layout.specs.Code.{edge_of}
 use Rattle.edges.specs.Faults.{listed_from, Fault, or_else, first_fault, first_leaving}
-use Rattle.edges.specs.Walk.{fault_of, Ranked}
+use Rattle.edges.specs.Walk.{Verdict, fault_of, Ranked}
+use Rattle.drawing.specs.declared.Outside.{Outside}
 use Rattle.drawing.specs.Profile.{larger, state_lines, labels_of}
 use Rattle.drawing.specs.Reader.{Read, drawing, outside, read_of, no_state}
 use Rattle.surveying.specs.declared.Survey.{Survey}
-use Rattle.surveying.specs.declared.Surveyed.{Surveyed}
-use Rattle.surveying.specs.declared.Surveyed.TheVariants as answer
 use Rattle.surveying.specs.declared.Testing.{Testing}
 
 -- The largest of some numbers plus one; 0 where there is none.
@@ -54,9 +54,12 @@ pub data Found : Type 0 where
   inside : Survey → Option Fault → Found
   leaves : ℕ → Found
 
+abbrev pub Surveyed : Type 0
+Surveyed = Result (Survey × Verdict) Outside
+
 abbrev pub found_of : Surveyed → Found
-found_of (answer.Inside s verdict) = inside s (fault_of verdict)
-found_of (answer.Outside place) = leaves place
+found_of (Ok (s, verdict)) = inside s (fault_of verdict)
+found_of (Err left) = leaves left.place
 
 -- `fault` is the fault colour, if there is one.
 abbrev pub surveyed : Option ℕ → Read → Found
@@ -103,15 +106,15 @@ abbrev pub MarkedOn : Option ℕ → ℕ → ℕ → List ℕ → List ℕ → T
 MarkedOn fault k colour words words' =
     (colours : List ℕ) → length colours ≡ k → Marked fault colours words → Marked fault (colours ++ (colour ∷ [])) words'
 
--- 17 of an edge by its number, counted from 1; 0: none.
-abbrev pub leaving_is : ℕ → Option Fault
-leaving_is zero = none
-leaving_is (suc i) = some (record { number = 17; place = i })
+-- 17 of an edge, if there is one.
+abbrev pub leaving_is : rust.Option ℕ → Option Fault
+leaving_is rust.None = none
+leaving_is (rust.Some i) = some (record { number = 17; place = i })
 
 -- 17 of edge i, as marks tell it.
 abbrev pub leaving_by : List ℕ → ℕ → Edge → Option Fault
 leaving_by words i e =
-    pick (contains words e.source && not (contains words e.target)) (leaving_is (suc i)) none
+    pick (contains words e.source && not (contains words e.target)) (leaving_is (rust.Some i)) none
 
 -- Edges that were tested: their own first fault; without one, the rank of the last of them, and the first that gets 17.
 pub record Judged (fault : Option ℕ) (colours : List ℕ) (es : List meaning.Edge) (t : Testing) : Type 0 where

@@ -1,7 +1,7 @@
 // What has to be known of a text before a file is written from it: a text read once from its beginning to its end.
 #![tactic(auto)]
 
-ghost use Rattle.std.specs.Prelude.{◌≡◌, ◌+◌, ◌^◌, ◌≤◌, ◌<◌, eqb, length};
+ghost use Rattle.std.specs.Prelude.{Ok, None, ◌≡◌, ◌+◌, ◌≤◌, ◌<◌, eqb, length};
 ghost use Rattle.std.proofs.Math.Option.{some};
 ghost use Rattle.meaning.specs.Pick.{pick};
 ghost use Rattle.sets.specs.Sets.{contains};
@@ -14,9 +14,7 @@ ghost use Rattle.drawing.specs.Profile.{larger, opening};
 ghost use Rattle.drawing.specs.Reader.{read_of};
 ghost use Rattle.surveying.specs.Surveys.{inside, leaves, found_of, surveyed, bytes, Countable, MarkedOn, leaving_is, leaving_by, JudgedOn};
 
-use drawing::Statement;
-use edges::Verdict;
-use layout::FaultColour;
+use drawing::{Outside, Statement};
 use layout::edge::Edge;
 use refusals::{Kind, Refusal};
 
@@ -30,13 +28,6 @@ pub struct Survey {
     pub edges: usize,
     pub labels: usize,
     pub next: usize,
-}
-
-// The survey of a text of the profile and the fault of its edges; or where the text leaves the profile.
-#[derive(Clone, Copy)]
-pub enum Surveyed {
-    Inside(Survey, Verdict),
-    Outside(usize),
 }
 
 impl Survey {
@@ -68,7 +59,7 @@ impl Survey {
     {
         Survey {
             states: self.states + 1,
-            colours: drawing::larger(self.colours, colour + 1),
+            colours: self.colours.max(colour + 1),
             begin: end,
             edges: self.edges,
             labels: self.labels,
@@ -93,47 +84,46 @@ impl Survey {
             colours: self.colours,
             begin: self.begin,
             edges: self.edges + 1,
-            labels: drawing::larger(self.labels, label + 1),
+            labels: self.labels.max(label + 1),
             next: 1000,
         }
     }
 }
 
 // The edges so far: the first fault of their own; without one, the rank of the last of them, and which is the first that leaves the
-// fault colour, counted from 1; 0: none does. A number is kept in a register, where a verdict would be copied at each edge.
+// fault colour, if one does.
 #[derive(Clone, Copy)]
 struct Testing {
-    verdict: Verdict,
+    verdict: Result<(), Refusal>,
     last: usize,
-    leaving: usize,
+    leaving: Option<usize>,
 }
 
 impl Testing {
     // Before the first edge.
     fn begin() -> Testing
-        ensures { result ≡ record { verdict = Verdict.Faultless; last = 0; leaving = 0 } }
+        ensures { result ≡ record { verdict = Ok tt; last = 0; leaving = None } }
     {
         Testing {
-            verdict: Verdict::Faultless,
+            verdict: Ok(()),
             last: 0,
-            leaving: 0,
+            leaving: None,
         }
     }
 
     // Edge i more, of a text with n states. Behind a faulty edge none is tested. An edge with a number above 255 is in no file.
     fn with_edge(self, n: usize, marks: &[u64; 4], i: usize, edge: Edge) -> Testing
-        requires { (length marks.now ≡ 4) × (i < 2 ^ 63) }
+        requires { length marks.now ≡ 4 }
         ensures { JudgedOn n marks.now i edge self result }
     {
-        let verdict = self.verdict;
-        let Verdict::Faultless = verdict else {
+        if self.verdict.is_err() {
             return self;
-        };
+        }
         if !bytes(edge) {
             return Testing {
                 verdict: outside(i),
                 last: 0,
-                leaving: 0,
+                leaving: None,
             };
         }
         Testing {
@@ -144,23 +134,23 @@ impl Testing {
     }
 
     // What is told of all edges: 17 only where none has a fault of its own.
-    fn told(self) -> Verdict
+    fn told(self) -> Result<(), Refusal>
         ensures { fault_of result ≡ or_else (fault_of self.verdict) (leaving_is self.leaving) }
     {
         let own = self.verdict;
-        if self.leaving == 0 {
-            return own;
+        match self.leaving {
+            None => own,
+            Some(place) => edges::or_leaving(own, place),
         }
-        edges::or_leaving(own, self.leaving - 1)
     }
 }
 
 // With edge i more, which leaves the fault colour if it leads from a marked state to one that is not.
-fn with_leaving(found: usize, marks: &[u64; 4], i: usize, edge: Edge) -> usize
-    requires { (length marks.now ≡ 4) × (i < 2 ^ 63) × Small edge }
+fn with_leaving(found: Option<usize>, marks: &[u64; 4], i: usize, edge: Edge) -> Option<usize>
+    requires { (length marks.now ≡ 4) × Small edge }
     ensures { leaving_is result ≡ or_else (leaving_is found) (leaving_by marks.now i edge) }
 {
-    if 0 < found {
+    if found.is_some() {
         return found;
     }
     if !marked(marks, edge.source) {
@@ -169,7 +159,7 @@ fn with_leaving(found: usize, marks: &[u64; 4], i: usize, edge: Edge) -> usize
     if marked(marks, edge.target) {
         return found;
     }
-    i + 1
+    Some(i)
 }
 
 fn marked(marks: &[u64; 4], state: usize) -> bool
@@ -180,11 +170,11 @@ fn marked(marks: &[u64; 4], state: usize) -> bool
 }
 
 // One state more, marked if it has the fault colour; number k is bit k % 64 of word k / 64. A state above 255 is in no file.
-fn mark(marks: &mut [u64; 4], fault: FaultColour, state: usize, colour: usize)
+fn mark(marks: &mut [u64; 4], fault: Option<usize>, state: usize, colour: usize)
     requires { length marks.old ≡ 4 }
     ensures { MarkedOn (colour_of fault) state colour marks.old marks.new }
 {
-    let FaultColour::Is(shut) = fault else {
+    let Some(shut) = fault else {
         return;
     };
     if colour != shut {
@@ -201,35 +191,35 @@ fn mark(marks: &mut [u64; 4], fault: FaultColour, state: usize, colour: usize)
 fn bytes(edge: Edge) -> bool
     ensures { result ≡ bytes edge }
 {
-    if 256 <= edge.source {
-        return false;
-    }
-    if 256 <= edge.label {
-        return false;
-    }
-    edge.target < 256
+    edge.source < 256 && edge.label < 256 && edge.target < 256
 }
 
-fn outside(i: usize) -> Verdict
+fn outside(i: usize) -> Result<(), Refusal>
     ensures { fault_of result ≡ some (record { number = 7; place = i }) }
 {
-    Verdict::Faulty(Refusal {
+    Err(Refusal {
         kind: Kind::Outside,
         place: i,
     })
 }
 
-pub fn survey_of(text: &[u8], fault: FaultColour) -> Surveyed
+// The survey of a text of the profile, and the fault of its edges.
+pub fn survey_of(
+    text: &[u8],
+    fault: Option<usize>,
+) -> Result<(Survey, Result<(), Refusal>), Outside>
     ensures { found_of result ≡ surveyed (colour_of fault) (read_of text.now) }
 {
     if !spelling::stands(text, 0, b"digraph {\n") {
-        return Surveyed::Outside(spelling::matched(text, 0, b"digraph {\n"));
+        return Err(Outside {
+            place: spelling::matched(text, 0, b"digraph {\n"),
+        });
     }
     statements(text, fault)
 }
 
 // The statements behind the opening line. All states come before the first edge, so that an edge is tested as soon as it is read.
-fn statements(text: &[u8], fault: FaultColour) -> Surveyed
+fn statements(text: &[u8], fault: Option<usize>) -> Result<(Survey, Result<(), Refusal>), Outside>
     requires { 10 ≤ matched text.now 0 opening }
     ensures { found_of result ≡ surveyed (colour_of fault) (read_of text.now) }
 {
@@ -238,8 +228,7 @@ fn statements(text: &[u8], fault: FaultColour) -> Surveyed
     let mut marks: [u64; 4] = [0; 4];
     let mut testing = Testing::begin();
     loop {
-        let statement = statements::statement_at(text, at, s.next);
-        match statement {
+        match statements::statement_at(text, at, s.next)? {
             Statement::State(colour, end) => {
                 mark(&mut marks, fault, s.states, colour);
                 s = s.with_state(colour, end);
@@ -251,19 +240,23 @@ fn statements(text: &[u8], fault: FaultColour) -> Surveyed
                 at = end;
             }
             Statement::Closing(end) => return closed(text.len(), end, s, testing),
-            Statement::Outside(place) => return Surveyed::Outside(place),
         }
     }
 }
 
 // Nothing may follow the closing brace's line.
-fn closed(length: usize, end: usize, s: Survey, testing: Testing) -> Surveyed
+fn closed(
+    length: usize,
+    end: usize,
+    s: Survey,
+    testing: Testing,
+) -> Result<(Survey, Result<(), Refusal>), Outside>
     ensures { found_of result ≡ pick (eqb end length)
         (inside s (or_else (fault_of testing.verdict) (leaving_is testing.leaving))) (leaves end) }
 {
     let verdict = testing.told();
     if end == length {
-        return Surveyed::Inside(s, verdict);
+        return Ok((s, verdict));
     }
-    Surveyed::Outside(end)
+    Err(Outside { place: end })
 }

@@ -1,83 +1,57 @@
-// Edges looked up by state and label: 64 targets of a byte a state, and for each state the set of the labels that it has. Only
-// the sets are looked at for whether there is an edge, so that a fresh table's targets may be anything. They are 255, which few
-// filters have as a state: code that forgets to ask the sets then goes wrong where it is seen.
+// Edges looked up by state and label: a row for each state, with the set of the labels that it has and 64 targets of a byte. Only
+// the sets are looked at for whether there is an edge, so that a fresh row's targets may be anything. They are 0, so that a table is
+// cleared in one go.
 #![tactic(auto)]
 
-ghost use Rattle.std.specs.Prelude.{◌≡◌, ◌+◌, ◌*◌, ◌≤◌, ◌<◌, length, replicate};
+ghost use Rattle.std.specs.Prelude.{◌≡◌, ◌+◌, ◌<◌, length, replicate};
 ghost use Rattle.meaning.specs.Search.{at};
-ghost use Rattle.table.specs.Table.{table, Rows, Put, Gave};
+ghost use Rattle.table.specs.Table.{Rows, row, blank, Put, Gave};
 
-// Targets for up to 16 states: a small filter is not to wait until a large table is cleared.
-pub fn small_targets() -> [u8; 1024]
-    ensures { length result ≡ 1024 }
-{
-    [255; 1024]
+// The edges of one state.
+#[derive(Clone, Copy)]
+pub struct Row {
+    pub labels: u64,
+    pub targets: [u8; 64],
 }
 
-pub fn small_labels() -> [u64; 16]
-    ensures { (result ≡ replicate 16 0) × (length result ≡ 16) }
+// A table without edges for N states: a small filter is not to wait until a large table is cleared.
+pub fn empty<const N: usize>() -> [Row; N]
+    ensures { (result ≡ replicate N blank) × (length result ≡ N) }
 {
-    [0; 16]
-}
-
-// The same for up to 64 states.
-pub fn middle_targets() -> [u8; 4096]
-    ensures { length result ≡ 4096 }
-{
-    [255; 4096]
-}
-
-pub fn middle_labels() -> [u64; 64]
-    ensures { (result ≡ replicate 64 0) × (length result ≡ 64) }
-{
-    [0; 64]
-}
-
-// The same for all 256.
-pub fn all_targets() -> [u8; 16384]
-    ensures { length result ≡ 16384 }
-{
-    [255; 16384]
-}
-
-pub fn all_labels() -> [u64; 256]
-    ensures { (result ≡ replicate 256 0) × (length result ≡ 256) }
-{
-    [0; 256]
+    [Row {
+        labels: 0,
+        targets: [0; 64],
+    }; N]
 }
 
 // The target of a state at a label.
-pub fn target(targets: &[u8], state: usize, label: usize) -> usize
-    requires { (label < 64) × (state * 64 + 64 ≤ length targets.now) }
-    ensures { (result ≡ at targets.now (state * 64 + label)) × (result < 256) }
+pub fn target(rows: &[Row], state: usize, label: usize) -> usize
+    requires { (label < 64) × Rows rows.now (state + 1) }
+    ensures { (result ≡ at (row rows.now state).targets label) × (result < 256) }
 {
-    targets[state * 64 + label] as usize
+    usize::from(rows[state].targets[label])
 }
 
 // Puts an edge into the table.
-pub fn put(targets: &mut [u8], labels: &mut [u64], state: usize, label: usize, target: u8)
-    requires { (label < 64) × Rows (table targets.old labels.old) (state + 1) }
-    ensures { Put (table targets.old labels.old) (table targets.new labels.new)
-        state label target }
+pub fn put(rows: &mut [Row], state: usize, label: usize, target: u8)
+    requires { (label < 64) × Rows rows.old (state + 1) }
+    ensures { Put rows.old rows.new state label target }
 {
-    targets[state * 64 + label] = target;
-    labels[state] = sets::with(labels[state], label);
+    let row = &mut rows[state];
+    row.targets[label] = target;
+    row.labels = sets::with(row.labels, label);
 }
 
 // Gives state `to` the edges of another state at the labels where it has none itself.
-pub fn give(targets: &mut [u8], labels: &mut [u64], from: usize, to: usize)
+pub fn give(rows: &mut [Row], from: usize, to: usize)
     requires fact { from ≡ to → ⊥ }
-    requires rows { Rows (table targets.old labels.old) (from + 1) × Rows (table targets.old labels.old) (to + 1) }
-    ensures { Gave (table targets.old labels.old) (table targets.new labels.new)
-        from to }
+    requires rows { Rows rows.old (from + 1) × Rows rows.old (to + 1) }
+    ensures { Gave rows.old rows.new from to }
 {
-    let own = labels[to];
-    let other = labels[from];
-    labels[to] = sets::joined(own, other);
-    let mut rest = sets::less(other, own);
-    while 0 < rest {
-        let y = sets::lowest(rest);
-        targets[to * 64 + y] = targets[from * 64 + y];
-        rest = sets::without_lowest(rest);
+    let other = rows[from];
+    let own = &mut rows[to];
+    for y in sets::each(sets::less(other.labels, own.labels)) {
+        own.targets[y] = other.targets[y];
     }
+    own.labels = sets::joined(own.labels, other.labels);
 }

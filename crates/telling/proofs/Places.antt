@@ -11,7 +11,7 @@ use lib.ListN.{length}
 use borrow.Author.Tests.{lt-ltb, ltb-false, not-false}
 use Rattle.meaning.specs.Cases.{and_left}
 use Rattle.meaning.specs.Filter.{states}
-use Rattle.layout.specs.declared.Profile.{Profile}
+use Rattle.layout.specs.declared.profile.Profile.{Profile}
 use Rattle.layout.specs.Layout.{fault_colour, from_lists}
 use Rattle.layout.specs.Contents.{filter_in}
 use Rattle.layout.specs.Code.{Usable}

@@ -1,8 +1,11 @@
 -- What a C caller gets: one number for an answer, the values in a lent array, and what the call leaves in its rooms.
 -- Assumes nothing.
-use Rattle.std.specs.Prelude.{ℕ, suc, ◌+◌, ◌*◌, ◌-◌, ◌^◌, ◌≡◌, List, [], ◌∷◌, ltb, set}
+use Rattle.std.specs.Prelude.{Result, Ok, Err, ℕ, suc, ◌+◌, ◌*◌, ◌-◌, ◌^◌, ◌≡◌, List, [], ◌∷◌, ltb, set}
 use Rattle.meaning.specs.Pick.{pick}
-use Rattle.refusals.specs.Refusals.{Outcome, accepted, refused, Lent, rooms_after}
+use Rattle.refusals.specs.declared.Refusal.{Refusal}
+use Rattle.refusals.specs.Refusals.{Outcome, accepted, refused, refusal_outcome, Lent, rooms_after}
+use Rattle.tracing.specs.declared.Traced.{Traced}
+use Rattle.tracing.specs.declared.Traced.TheVariants as traced
 
 -- A place that a number of 64 bits can hold beside the paper's number. Only a text of 2^56 bytes or more could have another.
 abbrev pub told_place : ℕ → ℕ
@@ -22,6 +25,16 @@ stored i (v ∷ vs) array = stored (suc i) vs (set array i v)
 abbrev pub values_after : Outcome → List ℕ → List ℕ
 values_after (accepted vs) array = stored 0 vs array
 values_after (refused number place) array = array
+
+-- The values of a ride: 0 and 0 where all is traced, 1 and i where it stops at observation i.
+abbrev pub ride_values : Traced → List ℕ
+ride_values traced.All = 0 ∷ 0 ∷ []
+ride_values (traced.Stopped i) = 1 ∷ i ∷ []
+
+-- The outcome of an answer, by the values that come back where the call accepts.
+abbrev pub outcome_of : {A : Type 0} → (A → List ℕ) → Result A Refusal → Outcome
+outcome_of values (Ok a) = accepted (values a)
+outcome_of values (Err r) = refusal_outcome r
 
 -- The number returned and the array of values, by the outcome that is answered.
 abbrev pub Spoken : Outcome → List ℕ → ℕ → List ℕ → Type 0

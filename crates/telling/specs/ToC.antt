@@ -1,7 +1,7 @@
 -- What each call for C promises: by the outcome that is due from the call that it wraps, and of the same rooms.
 -- Assumes nothing.
 use Rattle.std.specs.Prelude.{ℕ, List, [], ◌∷◌, length}
-use Rattle.layout.specs.declared.Profile.{Profile}
+use Rattle.layout.specs.declared.profile.Profile.{Profile}
 use Rattle.files.specs.Files.{check_of}
 use Rattle.unpacking.specs.Promise.{unpack_of, unpack_lent}
 use Rattle.unpacking.specs.Promise as unpacking

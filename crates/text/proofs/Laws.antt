@@ -9,7 +9,7 @@ use native.Mathlib.Numerals.{add-one}
 use native.Mathlib.Omega.{arith}
 use lib.Dec.{lit<}
 use lib.ListN.{length, take, drop, length-append}
-use lib.Seq.{paste, take_at, drop_at, drop-drop, length-take-le, take-length}
+use lib.Seq.{take_at, drop_at, drop-drop, length-take-le}
 use borrow.Author.Tests.{lt-ltb, le-ltb}
 use Rattle.io.specs.Digits.{hex_digit_ascii, last_digits, IsDigitCount}
 use Rattle.text.specs.Decimal.{digits_of, decimal, wrote}
@@ -81,10 +81,6 @@ decimal_most k n h = digits_most 20 k n h
 
 -- ---- pieces
 
--- a text written is as long as it is
-pub wrote_whole : (room : List ℕ) (at : ℕ) (text : List ℕ) → paste room at text (length text) ≡ wrote room at text
-wrote_whole room at text = rw (take-length text)
-
 -- one text behind another is both together
 pub wrote_more : (room : List ℕ) (at : ℕ) (a b : List ℕ) → at ≤ length room → wrote (wrote room at a) (at + length a) b ≡ wrote room at (a ++ b)
 wrote_more room at a b h =
@@ -121,9 +117,6 @@ pub wrote_front : (room text : List ℕ) (k : ℕ) → k ≡ length text → tak
 wrote_front room text k h = take_at text (drop (0 + length text) room) k (sym h)
 
 -- ---- whole texts
-
-pub printed_short : (text room : List ℕ) → length room < length text → Printed text room 0 room
-printed_short text room h = let t = lt-ltb _ _ h in record { count = rw t; room_after = rw t; within = (omega arith, refl) }
 
 pub printed_whole : (text room : List ℕ) (r : ℕ) (room' : List ℕ) → length text ≤ length room → r ≡ length text → room' ≡ wrote room 0 text → Printed text room r room'
 printed_whole text room r room' h e w =

@@ -11,12 +11,9 @@ pub fn put(room: &mut [u8], at: usize, bytes: &[u8]) -> usize
     ensures { (room.new ≡ wrote room.old at bytes.now)
         × (result ≡ at + length bytes.now) }
 {
-    let mut i = 0;
-    while i < bytes.len() {
-        room[at + i] = bytes[i];
-        i += 1;
-    }
-    at + i
+    let end = at + bytes.len();
+    room[at..end].copy_from_slice(bytes);
+    end
 }
 
 fn digits() -> [u8; 20]
@@ -33,7 +30,7 @@ fn put_decimal(room: &mut [u8], at: usize, n: u64) -> usize
 {
     let mut text = digits();
     let k = io::decimal(n, &mut text);
-    put(room, at, &text[0..k])
+    put(room, at, &text[..k])
 }
 
 // A number in decimal and the byte behind it.

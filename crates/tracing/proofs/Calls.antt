@@ -12,7 +12,7 @@ use lib.ListN.{length}
 use borrow.Author.Tests.{lt-ltb, le-ltb, ltb-false}
 use Rattle.meaning.specs.Cases.{impossible}
 use Rattle.meaning.specs.Trace.{shown, stops}
-use Rattle.layout.specs.declared.Profile.{Profile}
+use Rattle.layout.specs.declared.profile.Profile.{Profile}
 use Rattle.refusals.specs.declared.Kind.TheVariants.{Room, Observation}
 use Rattle.refusals.specs.declared.Refusal.{Refusal}
 use Rattle.layout.specs.Contents.{labels_in, filter_in}
@@ -20,9 +20,9 @@ use Rattle.refusals.specs.Refusals.{Outcome, accepted, refusal_outcome, laid, Le
 use Rattle.refusals.proofs.Laws.{first_accepted, onward_accepted, all_laid, promise_refused, promise_accepted}
 use Rattle.files.specs.Files.{check_of}
 use Rattle.observed.specs.Observed.{first_outside}
+use Rattle.std.specs.Prelude.{Ok, Err}
 use Rattle.tracing.specs.declared.Traced.{Traced}
-use Rattle.tracing.specs.declared.Traced.TheVariants as traced
-use Rattle.tracing.specs.Answers.{ride_outcome, traced_outcome}
+use Rattle.tracing.specs.Answers.{ride_outcome, told_ride}
 use Rattle.tracing.specs.Tracing.{trace_tests, labels_then, trace_of}
 use Rattle.tracing.specs.Promise.{TracePromise}
 
@@ -32,22 +32,22 @@ ridden none ls = promise_accepted _ _ ls refl
 ridden (some i) ls = promise_accepted _ _ ls refl
 
 module _ (P : Profile) (s ys room : List ℕ) where
-  pub trace_refused : (why : Refusal) → check_of P s ≡ refusal_outcome why → TracePromise P s ys room (traced.Refused why) room
+  pub trace_refused : (why : Refusal) → check_of P s ≡ refusal_outcome why → TracePromise P s ys room (Err why) room
   unfolding trace_of
   trace_refused why h = promise_refused _ why _ (rw h)
 
   module _ (vs : List ℕ) (h : check_of P s ≡ accepted vs) where
-    pub trace_short : (ltb 65535 (length ys) || ltb (length room) (length ys + 1)) ≡ true → TracePromise P s ys room (traced.Refused (record { kind = Room; place = 0 })) room
+    pub trace_short : (ltb 65535 (length ys) || ltb (length room) (length ys + 1)) ≡ true → TracePromise P s ys room (Err (record { kind = Room; place = 0 })) room
     unfolding trace_of
     trace_short t = promise_refused _ (record { kind = Room; place = 0 }) _ (rw (h, t))
 
     module _ (t : (ltb 65535 (length ys) || ltb (length room) (length ys + 1)) ≡ false) where
-      pub trace_label : (i : ℕ) → first_outside (labels_in P s) ys ≡ some i → TracePromise P s ys room (traced.Refused (record { kind = Observation; place = i })) room
+      pub trace_label : (i : ℕ) → first_outside (labels_in P s) ys ≡ some i → TracePromise P s ys room (Err (record { kind = Observation; place = i })) room
       unfolding trace_of
       trace_label i o = promise_refused _ (record { kind = Observation; place = i }) _ (rw (h, t, o))
 
-      pub trace_ridden : (r : Traced) (room' : List ℕ) → first_outside (labels_in P s) ys ≡ none → traced_outcome r ≡ ride_outcome (stops (filter_in P s) ys) →
-          room' ≡ laid (shown (filter_in P s) ys) room → TracePromise P s ys room r room'
+      pub trace_ridden : (r : Traced) (room' : List ℕ) → first_outside (labels_in P s) ys ≡ none → told_ride r ≡ ride_outcome (stops (filter_in P s) ys) →
+          room' ≡ laid (shown (filter_in P s) ys) room → TracePromise P s ys room (Ok r) room'
       unfolding trace_of
       trace_ridden r room' o e w = rw (h, t, o, e, w) (ridden (stops (filter_in P s) ys) _)
 

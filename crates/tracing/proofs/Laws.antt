@@ -17,21 +17,23 @@ use Rattle.refusals.specs.Refusals.{laid}
 use Rattle.table.specs.Table.{Table, look}
 use Rattle.observed.proofs.Laws.{from, from-later, from_zero}
 use Rattle.tracing.specs.declared.Ride.{Ride}
+use Rattle.std.specs.Prelude.{Result, Ok, Err}
+use Rattle.tracing.specs.declared.Traced.{Traced}
 use Rattle.tracing.specs.declared.Traced.TheVariants as traced
-use Rattle.tracing.specs.declared.Step.{Step}
-use Rattle.tracing.specs.declared.Step.TheVariants as step
-use Rattle.tracing.specs.Answers.{ride_outcome}
-use Rattle.tracing.specs.Riding.{onto, stop, step_course, course_of, Stand, Ridable, Ridden}
+use Rattle.tracing.specs.Answers.{ride_outcome, told_ride}
+use Rattle.tracing.specs.Riding.{step_of, Stand, Ridable, Ridden}
 
 -- ---- a step
 
-course_onto : (o : Option ℕ) (taken s k : ℕ) → onto s k ≡ course_of o taken → (o ≡ some s) × (k ≡ taken + 1)
-course_onto none taken s k h = impossible cc
-course_onto (some t) taken s k h = (ap some (cc h), cc h)
+step_onto : (o : Option ℕ) (taken : ℕ) (next : Ride) → Ok next ≡ step_of o taken → (o ≡ some next.state) × (next.taken ≡ taken + 1)
+step_onto none taken next h = impossible cc
+step_onto (some t) taken next h =
+    let is : next ≡ record { state = t; taken = taken + 1 } = cc in
+    (ap some (sym (ap (λ (r : Ride). r.state) is)), ap (λ (r : Ride). r.taken) is)
 
-course_stop : (o : Option ℕ) (taken k : ℕ) → stop k ≡ course_of o taken → (o ≡ none) × (k ≡ taken)
-course_stop none taken k h = (refl, cc h)
-course_stop (some t) taken k h = impossible cc
+step_stop : (o : Option ℕ) (taken : ℕ) (r : Traced) → Err r ≡ step_of o taken → (o ≡ none) × (r ≡ traced.Stopped taken)
+step_stop none taken r h = (refl, cc h)
+step_stop (some t) taken r h = impossible cc
 
 -- ---- the ride
 
@@ -124,12 +126,12 @@ module _ (T : Table) (hues : List ℕ) (start : ℕ) (ys room₀ : List ℕ) whe
         record { answer = ap ride_outcome (sym end.1); colours = end.0 }
 
     -- One step of the ride, at the next observation.
-    module _ (more : ride.taken < length ys) (label : ℕ) (is : label ≡ at ys ride.taken) (taken : Step)
-        (leads : step_course taken ≡ course_of (look T ride.state label) ride.taken) where
-      onward : (next : Ride) → taken ≡ step.Next next → (look T ride.state label ≡ some next.state) × (next.taken ≡ ride.taken + 1)
-      onward next e = course_onto (look T ride.state label) ride.taken next.state next.taken (sym (ap step_course e) ∙ leads)
+    module _ (more : ride.taken < length ys) (label : ℕ) (is : label ≡ at ys ride.taken) (taken : Result Ride Traced)
+        (leads : taken ≡ step_of (look T ride.state label) ride.taken) where
+      onward : (next : Ride) → taken ≡ Ok next → (look T ride.state label ≡ some next.state) × (next.taken ≡ ride.taken + 1)
+      onward next e = step_onto (look T ride.state label) ride.taken next (sym e ∙ leads)
 
-      pub underway_on : (next : Ride) → taken ≡ step.Next next → Underway put_here next
+      pub underway_on : (next : Ride) → taken ≡ Ok next → Underway put_here next
       underway_on next e =
           let to = onward next e in
           record {
@@ -142,12 +144,12 @@ module _ (T : Table) (hues : List ℕ) (start : ℕ) (ys room₀ : List ℕ) whe
                 (ap (look T ride.state) (sym is) ∙ to.0));
           }
 
-      pub underway_less : (next : Ride) → taken ≡ step.Next next → length ys - next.taken < length ys - ride.taken
-      underway_less next e = omega (arith, (onward next e).1)
+      pub underway_more : (next : Ride) → taken ≡ Ok next → next.taken ≡ ride.taken + 1
+      underway_more next e = (onward next e).1
 
       -- the stop that the step hands back is the one that is due
-      pub underway_stops : (k : ℕ) → taken ≡ step.Stopped k → Ridden T hues start ys room₀ (traced.Stopped k) put_here
-      underway_stops k e =
-          let no = course_stop (look T ride.state label) ride.taken k (sym (ap step_course e) ∙ leads) in
+      pub underway_stops : (r : Traced) → taken ≡ Err r → Ridden T hues start ys room₀ r put_here
+      underway_stops r e =
+          let no = step_stop (look T ride.state label) ride.taken r (sym e ∙ leads) in
           let end = riding_stops (look T) (at hues) start ys room₀ room ride.taken ride.state u.riding more (omega (arith, asked.roomy)) (ap (look T ride.state) (sym is) ∙ no.0) in
-          record { answer = ap ride_outcome (ap some no.1 ∙ sym end.1); colours = end.0 }
+          record { answer = ap told_ride no.1 ∙ ap ride_outcome (sym end.1); colours = end.0 }

@@ -12,7 +12,7 @@ use Rattle.meaning.specs.Cases.{impossible}
 use Rattle.meaning.specs.Trace.{later, stops}
 use Rattle.meaning.specs.TraceLaws.{later-within}
 use Rattle.refusals.specs.Refusals.{Outcome}
-use Rattle.layout.specs.declared.Profile.{Profile}
+use Rattle.layout.specs.declared.profile.Profile.{Profile}
 use Rattle.layout.specs.Code.{Usable}
 use Rattle.layout.specs.Contents.{labels_in, filter_in}
 use Rattle.files.specs.Files.{check_of}

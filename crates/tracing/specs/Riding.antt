@@ -1,29 +1,20 @@
 -- What one step of a ride makes of it, what is asked for a ride, and what it gives. No public call's promise speaks of these.
 -- Assumes nothing.
-use Rattle.std.specs.Prelude.{ℕ, ◌+◌, ◌≤◌, ◌<◌, ◌≡◌, List, length}
+use Rattle.std.specs.Prelude.{Result, Ok, Err, ℕ, ◌+◌, ◌≤◌, ◌<◌, ◌≡◌, List, length}
 use Rattle.std.proofs.Math.Option.{Option, none, some}
 use Rattle.meaning.specs.Search.{at}
 use Rattle.meaning.specs.Trace.{ridden, halted}
 use Rattle.refusals.specs.Refusals.{laid}
 use Rattle.table.specs.Table.{Table, look, Rows}
 use Rattle.tracing.specs.declared.Traced.{Traced}
-use Rattle.tracing.specs.declared.Step.{Step}
-use Rattle.tracing.specs.declared.Step.TheVariants as step
-use Rattle.tracing.specs.Answers.{ride_outcome, traced_outcome}
+use Rattle.tracing.specs.declared.Traced.TheVariants as traced
+use Rattle.tracing.specs.declared.Ride.{Ride}
+use Rattle.tracing.specs.Answers.{ride_outcome, told_ride}
 
--- What becomes of a ride: it is in a state with so many observations taken, or it stops at an observation.
-pub data Course : Type 0 where
-  onto : ℕ → ℕ → Course
-  stop : ℕ → Course
-
-abbrev pub step_course : Step → Course
-step_course (step.Next r) = onto r.state r.taken
-step_course (step.Stopped i) = stop i
-
--- One observation more, by the edge that there is for it.
-abbrev pub course_of : Option ℕ → ℕ → Course
-course_of (some t) taken = onto t (taken + 1)
-course_of none taken = stop taken
+-- One observation more, by the edge that there is for it; or the ride stops at that observation.
+abbrev pub step_of : Option ℕ → ℕ → Result Ride Traced
+step_of (some t) taken = Ok (record { state = t; taken = taken + 1 })
+step_of none taken = Err (traced.Stopped taken)
 
 -- A state that a ride can be in: it has a row in the table, and a colour.
 pub record Stand (T : Table) (hues : List ℕ) (s : ℕ) : Type 0 where
@@ -42,5 +33,5 @@ pub record Ridable (T : Table) (hues : List ℕ) (start : ℕ) (observations roo
 -- What a ride gives: where it stops, and the colours of the states on the way at the beginning of the room.
 pub record Ridden (T : Table) (hues : List ℕ) (start : ℕ) (observations room : List ℕ)
     (r : Traced) (room' : List ℕ) : Type 0 where
-  pub answer : traced_outcome r ≡ ride_outcome (halted (look T) start observations)
+  pub answer : told_ride r ≡ ride_outcome (halted (look T) start observations)
   pub colours : room' ≡ laid (ridden (look T) (at hues) start observations) room

@@ -3,7 +3,7 @@
 use Rattle.std.specs.Prelude.{ℕ, ◌+◌, ◌||◌, List, [], ◌∷◌, ltb, length}
 use Rattle.std.proofs.Math.Option.{Option, none, some}
 use Rattle.meaning.specs.Trace.{stops}
-use Rattle.layout.specs.declared.Profile.{Profile}
+use Rattle.layout.specs.declared.profile.Profile.{Profile}
 use Rattle.layout.specs.Contents.{labels_in, filter_in}
 use Rattle.refusals.specs.Refusals.{Outcome, refused, Test, test, first_of, onward}
 use Rattle.files.specs.Files.{check_of}

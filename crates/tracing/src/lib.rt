@@ -2,105 +2,71 @@
 #![tactic(auto)]
 
 ghost use Rattle.std.specs.Prelude.{◌≡◌, ◌+◌, ◌<◌};
-ghost use Rattle.layout.specs.Layout.{large, pocket};
-ghost use Rattle.table.specs.Table.{table, look, Rows};
-ghost use Rattle.loading.specs.Loading.{Loadable, Tabled};
+ghost use Rattle.table.specs.Table.{look, Rows};
+ghost use Rattle.loading.specs.Loading.{Loadable};
 ghost use Rattle.tracing.specs.Promise.{TracePromise};
-ghost use Rattle.tracing.specs.Riding.{step_course, course_of, Ridable, Ridden};
+ghost use Rattle.tracing.specs.Riding.{step_of, Ridable, Ridden};
 
-use checking::Checked;
-use layout::Profile;
+use layout::{Format, Profile};
 use refusals::{Kind, Refusal};
+use table::Row;
 
 // All observations traced; or stopped at the first without an edge.
-#[derive(Clone, Copy)]
+#[derive(Clone, Copy, Debug, PartialEq, Eq)]
 pub enum Traced {
     All,
     Stopped(usize),
-    Refused(Refusal),
 }
 
 // Traces the observations from the start, and writes the colours that are shown.
-pub fn trace(file: &[u8], observations: &[u8], colours: &mut [u8]) -> Traced
-    ensures { TracePromise large file.now observations.now colours.old result
+pub fn trace<F: Format>(
+    file: &[u8],
+    observations: &[u8],
+    colours: &mut [u8],
+) -> Result<Traced, Refusal>
+    ensures { TracePromise F.profile file.now observations.now colours.old result
         colours.new }
 {
     // The shortest table with a row for each state.
-    let n = layout::states(layout::large(), file);
+    let n = layout::states(F::profile(), file);
     if n <= 16 {
-        let mut targets = table::small_targets();
-        let mut labels = table::small_labels();
-        return trace_in(&mut targets, &mut labels, file, observations, colours);
+        return trace_with::<F>(&mut table::empty::<16>(), file, observations, colours);
     }
     if n <= 64 {
-        let mut targets = table::middle_targets();
-        let mut labels = table::middle_labels();
-        return trace_in(&mut targets, &mut labels, file, observations, colours);
+        return trace_with::<F>(&mut table::empty::<64>(), file, observations, colours);
     }
-    let mut targets = table::all_targets();
-    let mut labels = table::all_labels();
-    trace_in(&mut targets, &mut labels, file, observations, colours)
+    trace_with::<F>(&mut table::empty::<256>(), file, observations, colours)
 }
 
-// The same of a pocket file.
-pub fn pocket_trace(file: &[u8], observations: &[u8], colours: &mut [u8]) -> Traced
-    ensures { TracePromise pocket file.now observations.now colours.old result
+// The same with a fresh table that has a row for each state: compiled once a kind of file, and called for each length of table.
+fn trace_with<F: Format>(
+    rows: &mut [Row],
+    file: &[u8],
+    observations: &[u8],
+    colours: &mut [u8],
+) -> Result<Traced, Refusal>
+    requires { Loadable F.profile file.now rows.old }
+    ensures { TracePromise F.profile file.now observations.now colours.old result
         colours.new }
 {
-    let mut targets = table::small_targets();
-    let mut labels = table::small_labels();
-    let answer = loading::pocket_load(&mut targets, &mut labels, file);
-    trace_with(
-        layout::pocket(),
-        answer,
-        &targets,
-        &labels,
-        file,
-        observations,
-        colours,
-    )
+    trace_in(F::profile(), rows, file, observations, colours)
 }
 
-// `trace` with a fresh table that has a row for each state.
+// The same for any widths.
 fn trace_in(
-    targets: &mut [u8],
-    labels: &mut [u64],
-    file: &[u8],
-    observations: &[u8],
-    colours: &mut [u8],
-) -> Traced
-    requires { Loadable large file.now (table targets.old labels.old) }
-    ensures { TracePromise large file.now observations.now colours.old result
-        colours.new }
-{
-    let answer = loading::load(targets, labels, file);
-    trace_with(
-        layout::large(),
-        answer,
-        targets,
-        labels,
-        file,
-        observations,
-        colours,
-    )
-}
-
-// The same for any widths, with the file's answer and its table.
-fn trace_with(
     p: Profile,
-    answer: Checked,
-    targets: &[u8],
-    labels: &[u64],
+    rows: &mut [Row],
     file: &[u8],
     observations: &[u8],
     colours: &mut [u8],
-) -> Traced
-    requires { Tabled p file.now answer (table targets.now labels.now) }
+) -> Result<Traced, Refusal>
+    requires { Loadable p file.now rows.old }
     ensures { TracePromise p file.now observations.now colours.old result
         colours.new }
 {
-    let Checked::Accepted(reading) = answer else {
-        return Traced::Refused(checking::refusal(answer));
+    let checked = loading::load(p, rows, file);
+    let Ok(reading) = checked else {
+        return Err(checked.unwrap_err());
     };
     let count = observations.len();
     if 65535 < count {
@@ -109,19 +75,17 @@ fn trace_with(
     if colours.len() < count + 1 {
         return refused(Kind::Room, 0);
     }
-    let outside = observed::first_outside(reading.labels, observations);
-    if outside < count {
+    if let Some(outside) = observed::first_outside(reading.labels, observations) {
         return refused(Kind::Observation, outside);
     }
     let hues = loading::colours_of(p, file, reading.states);
-    let start = reading.start;
-    ride_through(targets, labels, &hues, start, observations, colours)
+    Ok(ride_through(rows, &hues, reading.start, observations, colours))
 }
 
-fn refused(kind: Kind, place: usize) -> Traced
-    ensures { result ≡ Traced.Refused (record { kind = kind; place = place }) }
+fn refused(kind: Kind, place: usize) -> Result<Traced, Refusal>
+    ensures { result ≡ Err (record { kind = kind; place = place }) }
 {
-    Traced::Refused(Refusal { kind, place })
+    Err(Refusal { kind, place })
 }
 
 // A ride in progress: the current state and the observations taken.
@@ -131,60 +95,47 @@ struct Ride {
     taken: usize,
 }
 
-#[derive(Clone, Copy)]
-enum Step {
-    Next(Ride),
-    Stopped(usize),
-}
-
 impl Ride {
-    // One observation more.
-    fn step(self, targets: &[u8], labels: &[u64], label: usize) -> Step
-        requires { (label < 64) × (self.taken < 65535) × Rows (table targets.now labels.now) (self.state + 1) }
-        ensures { step_course result ≡
-            course_of (look (table targets.now labels.now) self.state label) self.taken }
+    // One observation more; or why there is none.
+    fn step(self, rows: &[Row], label: usize) -> Result<Ride, Traced>
+        requires { (label < 64) × (self.taken < 65535) × Rows rows.now (self.state + 1) }
+        ensures { result ≡ step_of (look rows.now self.state label) self.taken }
     {
         let state = self.state;
         let taken = self.taken;
-        if sets::holds(labels[state], label) {
-            return Step::Next(Ride {
-                state: table::target(targets, state, label),
+        if sets::holds(rows[state].labels, label) {
+            return Ok(Ride {
+                state: table::target(rows, state, label),
                 taken: taken + 1,
             });
         }
-        Step::Stopped(taken)
+        Err(Traced::Stopped(taken))
     }
 }
 
 // Rides from the start through the observations, and writes the colour of each state on the way.
 fn ride_through(
-    targets: &[u8],
-    labels: &[u64],
+    rows: &[Row],
     hues: &[u8],
     start: usize,
     observations: &[u8],
     room: &mut [u8],
 ) -> Traced
-    requires { Ridable (table targets.now labels.now) hues.now start observations.now room.old }
-    ensures { Ridden (table targets.now labels.now) hues.now start
+    requires { Ridable rows.now hues.now start observations.now room.old }
+    ensures { Ridden rows.now hues.now start
         observations.now room.old result room.new }
 {
     let mut ride = Ride {
         state: start,
         taken: 0,
     };
-    while ride.taken < observations.len() {
+    for observation in observations {
         let state = ride.state;
         let taken = ride.taken;
         room[taken] = hues[state];
-        let step = ride.step(targets, labels, arrays::wide_byte(observations[taken]));
-        match step {
-            Step::Next(next) => {
-                ride = next;
-            }
-            Step::Stopped(at) => {
-                return Traced::Stopped(at);
-            }
+        match ride.step(rows, usize::from(*observation)) {
+            Ok(next) => ride = next,
+            Err(stopped) => return stopped,
         }
     }
     let last = ride.state;

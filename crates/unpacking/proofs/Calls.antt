@@ -15,7 +15,7 @@ use Rattle.refusals.specs.declared.Kind.TheVariants.{Room}
 use Rattle.refusals.specs.declared.Refusal.{Refusal}
 use Rattle.refusals.specs.Refusals.{Outcome, accepted, refused, refusal_outcome, first_of, onward, laid}
 use Rattle.refusals.proofs.Laws.{first_accepted, promise_refused, promise_accepted}
-use Rattle.layout.specs.declared.Profile.{Profile}
+use Rattle.layout.specs.declared.profile.Profile.{Profile}
 use Rattle.layout.specs.declared.Reading.{Reading}
 use Rattle.layout.specs.Layout.{header_bits, edges_begin, flat}
 use Rattle.layout.specs.Contents.{states_in, count_in, colours_in, placed_in, edges_from, edges_in}
@@ -23,7 +23,7 @@ use Rattle.layout.proofs.EdgeLists.{length-flat}
 use Rattle.files.specs.Files.{numbers_in, check_of}
 use Rattle.files.specs.Tests.{check_sound, ReadIs}
 use Rattle.files.specs.Written.{length_colours, length-edges_in}
-use Rattle.unpacking.specs.declared.Unpacked.TheVariants as unpacked
+use Rattle.std.specs.Prelude.{Ok, Err}
 use Rattle.unpacking.specs.Promise.{Rooms, rooms, unpack_tests, unpack_of, UnpackPromise}
 
 or_neither : (a b : Bool) → a ≡ false → b ≡ false → a || b ≡ false
@@ -48,12 +48,12 @@ unpack_checked P s vs room h = go (check_of P s) refl h
     go (refused n p) q k = impossible cc
 
 -- a refused file ends the call with that same refusal
-pub unpack_refused : (P : Profile) (s : List ℕ) (room : Rooms) (r : Refusal) → check_of P s ≡ refusal_outcome r → UnpackPromise P s room (unpacked.Refused r) room
+pub unpack_refused : (P : Profile) (s : List ℕ) (room : Rooms) (r : Refusal) → check_of P s ≡ refusal_outcome r → UnpackPromise P s room (Err r) room
 unfolding unpack_of
 unpack_refused P s room r h = promise_refused _ r _ (rw h)
 
 module _ (P : Profile) (s : List ℕ) (r : Reading) (is : ReadIs P s r) (room : Rooms) where
-  pub short : (length room.colours < r.states) ⊎ (length room.edges < 3 * r.edges) → UnpackPromise P s room (unpacked.Refused (record { kind = Room; place = 0 })) room
+  pub short : (length room.colours < r.states) ⊎ (length room.edges < 3 * r.edges) → UnpackPromise P s room (Err (record { kind = Room; place = 0 })) room
   unfolding unpack_of
   short l = promise_refused _ (record { kind = Room; place = 0 }) _ (rw (is.answer, given l))
     where
@@ -63,7 +63,7 @@ module _ (P : Profile) (s : List ℕ) (r : Reading) (is : ReadIs P s r) (room : 
       given (inr h) = or_right (ltb (length room.colours) (states_in P s)) (lt-ltb (length room.edges) (3 * count_in P s) (omega (arith, is.count_is)))
 
   pub unpack_filled : r.states ≤ length room.colours → 3 * r.edges ≤ length room.edges →
-      UnpackPromise P s room (unpacked.Accepted r) (rooms (laid (colours_in P s) room.colours) (laid (flat (edges_in P s)) room.edges))
+      UnpackPromise P s room (Ok r) (rooms (laid (colours_in P s) room.colours) (laid (flat (edges_in P s)) room.edges))
   unpack_filled lc le =
       promise_accepted _ _ _ (unpack_accepts P s _ room is.answer (omega (arith, is.states_are)) (omega (arith, is.count_is)))
 

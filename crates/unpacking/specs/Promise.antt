@@ -1,19 +1,21 @@
 -- What unpack answers, and what it promises of its answer and of every byte that it is lent to write. What is lent to be read
 -- cannot change.
 -- Assumes nothing.
-use Rattle.std.specs.Prelude.{ℕ, ◌*◌, ◌≤◌, ◌||◌, List, [], ◌∷◌, ltb, length}
+use Rattle.std.specs.Prelude.{Result, Ok, Err, ℕ, ◌*◌, ◌≤◌, ◌||◌, List, [], ◌∷◌, ltb, length}
+use Rattle.refusals.specs.declared.Refusal.{Refusal}
 use Rattle.refusals.specs.Refusals.{Outcome, accepted, refusal_outcome, Test, test, first_of, onward, Lent, lent, Promise}
-use Rattle.layout.specs.declared.Profile.{Profile}
+use Rattle.layout.specs.declared.profile.Profile.{Profile}
+use Rattle.layout.specs.declared.Reading.{Reading}
 use Rattle.layout.specs.Layout.{flat}
 use Rattle.layout.specs.Contents.{states_in, count_in, colours_in, edges_in}
-use Rattle.layout.specs.Code.{Usable}
 use Rattle.files.specs.Files.{reading_outcome, numbers_in, check_of}
-use Rattle.unpacking.specs.declared.Unpacked.{Unpacked}
-use Rattle.unpacking.specs.declared.Unpacked.TheVariants as unpacked
+
+abbrev pub Unpacked : Type 0
+Unpacked = Result Reading Refusal
 
 abbrev pub unpacked_outcome : Unpacked → Outcome
-unpacked_outcome (unpacked.Accepted r) = reading_outcome r
-unpacked_outcome (unpacked.Refused r) = refusal_outcome r
+unpacked_outcome (Ok r) = reading_outcome r
+unpacked_outcome (Err r) = refusal_outcome r
 
 -- The rooms that unpack is lent.
 pub record Rooms : Type 0 where
@@ -45,7 +47,6 @@ UnpackPromise P file found r left =
 
 -- What is asked for reading e edges from bit `at` on into a room.
 pub record Readable (P : Profile) (at e : ℕ) (room : List ℕ) : Type 0 where
-  pub usable : Usable P
   pub begin : at ≤ 2096
   pub few : e ≤ 65536
   pub holds : 3 * e ≤ length room

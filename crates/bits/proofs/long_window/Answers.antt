@@ -20,7 +20,7 @@ returns-then-q-s c =
     let six : a.q + 4 + 2 ≡ a.q + 6 = omega arith in
     let seven : a.q + 4 + 3 ≡ a.q + 7 = omega arith in
     let second = rw (five, six, seven) at (field_window a.s.now (a.q + 4) b) in (
-      rw (c.wide.ensures.0, c.wide-then-q-s.ensures.0, c.wide-then-q-s-2.ensures.0, c.wide-then-q-s-3.ensures.0, c.wide-then-q-s-4.ensures.0, c.wide-then-q-s-5.ensures.0, c.wide-then-q-s-6.ensures.0, c.wide-then-q-s-7.ensures.0)
+      rw (c.from.ensures, c.from-then-q-s.ensures, c.from-then-q-s-2.ensures, c.from-then-q-s-3.ensures, c.from-then-q-s-4.ensures, c.from-then-q-s-5.ensures, c.from-then-q-s-6.ensures, c.from-then-q-s-7.ensures)
           (sym (halves a.s.now a.q ∙ rw (field_window a.s.now a.q b, second))),
       search rules,
     )

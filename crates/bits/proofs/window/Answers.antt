@@ -9,7 +9,7 @@ pub returns-then-q-s : goal.returns-then-q-s
 returns-then-q-s c =
     let a = c.args in
     let b : Bytes a.s.now = λ i. omega (arith, c.type_inv.s i) in (
-      rw (c.wide.ensures.0, c.wide-then-q-s.ensures.0, c.wide-then-q-s-2.ensures.0, c.wide-then-q-s-3.ensures.0)
+      rw (c.from.ensures, c.from-then-q-s.ensures, c.from-then-q-s-2.ensures, c.from-then-q-s-3.ensures)
           (sym (field_window a.s.now a.q b)),
       search rules,
     )

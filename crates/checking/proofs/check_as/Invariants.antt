@@ -1,12 +1,8 @@
 -- `checking::check_as` meets its contract: a refusal before the edges is the answer, and otherwise the first fault of the edges
--- decides, or else 17. The invariant: no edge before the cursor has a fault. Assumes nothing.
-use Prim.Native.Nat.{◌-◌}
+-- decides, or else 17. The invariant: no edge before those that are left has a fault. Assumes nothing.
 use Rattle.layout.specs.Layout.{edges_begin}
-use Rattle.edges.specs.Walk.{Walked}
+use Rattle.edges.specs.Walk.{Walking}
 use Rattle.checking.proofs.check_as.Given as goal
 
-abbrev pub invariant-loop-cursor : goal.invariant-loop-cursor
-invariant-loop-cursor l = Walked l.p l.file (edges_begin l.p l.n) l.e l.n l.m l.cursor
-
-abbrev pub decreases-loop-cursor : goal.decreases-loop-cursor
-decreases-loop-cursor l = l.e - l.cursor.index
+abbrev pub invariant-loop-edge : goal.invariant-loop-edge
+invariant-loop-edge l = Walking l.p l.file (edges_begin l.p l.n) l.e l.n l.m l.last l.edge-iterator

@@ -5,7 +5,7 @@ use native.Mathlib.Omega.{arith}
 use Prim.Native.Nat.{ℕ, ◌*◌, ◌%◌, ◌^◌, ◌≤◌}
 use borrow.Author.Tests.{le-leb, lt-leb}
 use Rattle.bits.proofs.Reading.{one_shl}
-use Rattle.layout.specs.declared.Profile.{Profile}
+use Rattle.layout.specs.declared.profile.Profile.{Profile}
 use Rattle.layout.specs.Code.{Usable}
 use Rattle.surveying.specs.declared.Survey.{Survey}
 use Rattle.surveying.specs.Surveys.{Known}
@@ -29,33 +29,33 @@ some text s k = omega (arith, ap (λ (x : Survey). x.labels) k.survey, labels_so
 
 pub returns-then-s-lt1 : goal.returns-then-s-lt1
 returns-then-s-lt1 c =
-    rw (holdable_is c.args.p c.args.text.now c.args.s c.requires.1, lt-leb _ _ c.if-s-lt1.true)
+    rw (holdable_is c.args.p c.args.text.now c.args.s c.requires, lt-leb _ _ c.if-s-lt1.true)
 
 pub returns-then-p-s : goal.returns-then-p-s
 returns-then-p-s c =
     rw (
-      holdable_is c.args.p c.args.text.now c.args.s c.requires.1,
+      holdable_is c.args.p c.args.text.now c.args.s c.requires,
       le-leb _ _ c.if-s-lt1.false,
-      lt-leb _ _ (rw (states_pow c.args.p c.requires.0) at c.if-p-s.true),
+      lt-leb _ _ (rw (states_pow c.args.p c.args.p.usable) at c.if-p-s.true),
     )
 
 pub returns-then-p-s-2 : goal.returns-then-p-s-2
 returns-then-p-s-2 c =
     rw (
-      holdable_is c.args.p c.args.text.now c.args.s c.requires.1,
+      holdable_is c.args.p c.args.text.now c.args.s c.requires,
       le-leb _ _ c.if-s-lt1.false,
-      le-leb _ _ (rw (states_pow c.args.p c.requires.0) at c.if-p-s.false),
-      le-leb 1 _ (some c.args.text.now c.args.s c.requires.1),
-      lt-leb _ _ (rw (labels_pow c.args.p c.requires.0) at c.if-p-s-2.true),
+      le-leb _ _ (rw (states_pow c.args.p c.args.p.usable) at c.if-p-s.false),
+      le-leb 1 _ (some c.args.text.now c.args.s c.requires),
+      lt-leb _ _ (rw (labels_pow c.args.p c.args.p.usable) at c.if-p-s-2.true),
     )
 
 pub returns : goal.returns
 returns c =
     rw (
-      holdable_is c.args.p c.args.text.now c.args.s c.requires.1,
+      holdable_is c.args.p c.args.text.now c.args.s c.requires,
       le-leb _ _ c.if-s-lt1.false,
-      le-leb _ _ (rw (states_pow c.args.p c.requires.0) at c.if-p-s.false),
-      le-leb 1 _ (some c.args.text.now c.args.s c.requires.1),
-      le-leb _ _ (rw (labels_pow c.args.p c.requires.0) at c.if-p-s-2.false),
-      colour_pow c.args.p c.requires.0,
+      le-leb _ _ (rw (states_pow c.args.p c.args.p.usable) at c.if-p-s.false),
+      le-leb 1 _ (some c.args.text.now c.args.s c.requires),
+      le-leb _ _ (rw (labels_pow c.args.p c.args.p.usable) at c.if-p-s-2.false),
+      colour_pow c.args.p c.args.p.usable,
     )

@@ -6,11 +6,12 @@ use mathlib.Core.Option.{none}
 use Prim.Native.Nat.{ℕ, ◌*◌, ◌≤◌}
 use native.Mathlib.Nat.{mul-le-mul, le_trans}
 use native.Mathlib.Omega.{arith}
-use Rattle.layout.specs.declared.Profile.{Profile}
+use Rattle.std.proofs.lemmas.Result.{err_from_is_err_and}
+use Rattle.layout.specs.declared.profile.Profile.{Profile}
 use Rattle.layout.specs.Layout.{fault_colour, bytes_for, file_length}
 use Rattle.layout.proofs.Bounds.{states-pow, labels_pow}
 use Rattle.refusals.specs.Refusals.{accepted, first_of, room_test}
-use Rattle.edges.specs.declared.Verdict.{Verdict}
+use Rattle.edges.specs.Walk.{Verdict}
 use Rattle.edges.specs.Faults.{listed_from, or_else, first_fault, first_leaving}
 use Rattle.edges.specs.Walk.{fault_of}
 use Rattle.files.specs.Files.{holdable}
@@ -32,10 +33,10 @@ module _ (p : Profile) (text : List ℕ) (s : Survey) (verdict : Verdict) (ok : 
   is_held = held _ _ _ holds
 
   states≤256 : s.states ≤ 256
-  states≤256 = omega (arith, states_are _ _ ok.known, is_held.states_high, states-pow p ok.usable)
+  states≤256 = omega (arith, states_are _ _ ok.known, is_held.states_high, states-pow p p.usable)
 
   labels≤256 : s.labels ≤ 256
-  labels≤256 = le_trans is_held.labels_high (labels_pow p ok.usable)
+  labels≤256 = le_trans is_held.labels_high (labels_pow p p.usable)
 
   product≤65536 : s.states * s.labels ≤ 65536
   product≤65536 = mul-le-mul states≤256 labels≤256
@@ -67,20 +68,21 @@ returns-then-n-s c =
 pub file_bits-requires : goal.file_bits-requires
 file_bits-requires c =
     let h = holds (goal.at.file_bits-requires c).Else-not-holdable in
-    (c.requires.usable, states≤256 _ _ _ _ c.requires h, le_trans c.if-n-s.false (product≤65536 _ _ _ _ c.requires h))
+    (states≤256 _ _ _ _ c.requires h, le_trans c.if-n-s.false (product≤65536 _ _ _ _ c.requires h))
 
-pub returns-in_default : goal.returns-in_default
+pub returns : goal.returns
 unfolding file_length
-returns-in_default c =
-    let h = holds (goal.at.returns-in_default c).Else-not-holdable in
-    let clear = sym (fault _ _ _ _ c.requires h) ∙ ap fault_of c.in_default.is in
+returns c =
+    let h = holds (goal.at.returns c).Else-not-holdable in
+    let clear = sym (fault _ _ _ _ c.requires h) ∙ ap fault_of c.in_ok-verdict.was in
     let length = c.bytes_for.ensures ∙ ap bytes_for c.file_bits.ensures.0 in
     c.test_room.ensures
     ∙ ap (λ (n : ℕ). first_of (room_test n c.args.room) (accepted (n ∷ []))) length
     ∙ sym (onto_edges _ _ _ c.requires.known _ h c.if-n-s.false ∙ rw clear)
 
-pub returns : goal.returns
-returns c =
-    let h = holds (goal.at.returns c).Else-not-holdable in
-    let faulty = sym (fault _ _ _ _ c.requires h) ∙ ap fault_of c.in-Faulty.is in
-    sym (onto_edges _ _ _ c.requires.known _ h c.if-n-s.false ∙ rw faulty)
+pub returns-in_err-verdict : goal.returns-in_err-verdict
+returns-in_err-verdict c =
+    let h = holds (goal.at.returns-in_err-verdict c).Else-not-holdable in
+    let faulty = sym (fault _ _ _ _ c.requires h) ∙ ap fault_of c.in_err-verdict.was in
+    let p = err_from_is_err_and c.from_residual.result c.from_residual.ensures.1 in
+    rw (p.1, p.2) (sym (onto_edges _ _ _ c.requires.known _ h c.if-n-s.false ∙ rw faulty))

@@ -21,44 +21,50 @@ there : (c : Else-not-stands) → c.args.at + 8 ≤ length c.args.text.now
 there c =
     omega (arith, word c, matched-inside c.args.text.now c.args.at label_word c.requires)
 
-pub overflow_add-result : goal.overflow_add-result
-overflow_add-result c =
+pub overflow_add-at : goal.overflow_add-at
+overflow_add-at c =
     omega (arith, c.matched.ensures, matched-inside c.args.text.now c.args.at label_word c.requires)
 
 pub returns-then-not-stands : goal.returns-then-not-stands
 unfolding labelled_at
 returns-then-not-stands c =
-    rw (missing c.stands.ensures (common_most label_word (drop c.args.at c.args.text.now)).0 c.if-not-stands.true, c.matched.ensures)
+    rw (missing c.stands.ensures (common_most label_word (drop c.args.at c.args.text.now)).0 c.if-not-stands.true, c.left_at.ensures, c.matched.ensures)
 
-pub returns-then-value-at : goal.returns-then-value-at
+pub returns-then-label-at : goal.returns-then-label-at
 unfolding labelled_at
-returns-then-value-at c =
-    rw (word (goal.at.returns-then-value-at c).Else-not-stands, ← c.number_at-value.ensures.0, eq-eqb _ _ c.if-value-at.true)
+returns-then-label-at c =
+    rw (
+      word (goal.at.returns-then-label-at c).Else-not-stands,
+      ← c.number_at-label.ensures.0,
+      eq-eqb _ _ c.if-label-at.true,
+      c.left_at-then-label-at.ensures,
+    )
 
-pub overflow_add-result-then-not-stands-2 : goal.overflow_add-result-then-not-stands-2
-overflow_add-result-then-not-stands-2 c =
-    omega (arith, c.matched-then-not-stands-2.ensures, matched-inside c.args.text.now c.number_at-value.result.end line_end (rw c.number_at-value.ensures.0 (number-inside _ _ (there (goal.at.overflow_add-result-then-not-stands-2 c).Else-not-stands))))
+pub stands-requires-2 : goal.stands-requires-2
+stands-requires-2 c = rw c.number_at-label.ensures.0 (number-inside _ _ (there (goal.at.stands-requires-2 c).Else-not-stands))
+
+pub matched-requires-then-not-stands-2 : goal.matched-requires-then-not-stands-2
+matched-requires-then-not-stands-2 c =
+    rw c.number_at-label.ensures.0 (number-inside _ _ (there (goal.at.matched-requires-then-not-stands-2 c).Else-not-stands))
+
+pub overflow_add-label : goal.overflow_add-label
+overflow_add-label c =
+    omega (arith, c.matched-then-not-stands-2.ensures, matched-inside c.args.text.now c.number_at-label.result.end line_end (rw c.number_at-label.ensures.0 (number-inside _ _ (there (goal.at.overflow_add-label c).Else-not-stands))))
 
 pub returns-then-not-stands-2 : goal.returns-then-not-stands-2
 unfolding labelled_at
 returns-then-not-stands-2 c =
     rw (
       word (goal.at.returns-then-not-stands-2 c).Else-not-stands,
-      ← c.number_at-value.ensures.0,
-      ne_eqb _ _ c.if-value-at.false,
-      missing c.stands-2.ensures (common_most line_end (drop c.number_at-value.result.end c.args.text.now)).0 c.if-not-stands-2.true,
+      ← c.number_at-label.ensures.0,
+      ne_eqb _ _ c.if-label-at.false,
+      missing c.stands-2.ensures (common_most line_end (drop c.number_at-label.result.end c.args.text.now)).0 c.if-not-stands-2.true,
+      c.left_at-then-not-stands-2.ensures,
       c.matched-then-not-stands-2.ensures,
     )
 
 pub returns : goal.returns
 unfolding labelled_at
 returns c =
-    let close : matched c.args.text.now c.number_at-value.result.end line_end ≡ 3 = found c.stands-2.ensures c.if-not-stands-2.false in
-    rw (word (goal.at.returns c).Else-not-stands, ← c.number_at-value.ensures.0, ne_eqb _ _ c.if-value-at.false, close)
-
-pub stands-requires-2 : goal.stands-requires-2
-stands-requires-2 c = rw c.number_at-value.ensures.0 (number-inside _ _ (there (goal.at.stands-requires-2 c).Else-not-stands))
-
-pub matched-requires-then-not-stands-2 : goal.matched-requires-then-not-stands-2
-matched-requires-then-not-stands-2 c =
-    rw c.number_at-value.ensures.0 (number-inside _ _ (there (goal.at.matched-requires-then-not-stands-2 c).Else-not-stands))
+    let close : matched c.args.text.now c.number_at-label.result.end line_end ≡ 3 = found c.stands-2.ensures c.if-not-stands-2.false in
+    rw (word (goal.at.returns c).Else-not-stands, ← c.number_at-label.ensures.0, ne_eqb _ _ c.if-label-at.false, close)

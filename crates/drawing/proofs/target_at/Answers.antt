@@ -1,9 +1,8 @@
 -- `drawing::target_at` meets its contract: the word and the number decide as in the definition. Assumes nothing.
 use mathlib.Core.Path.{◌≡◌}
-use Prim.Native.Nat.{◌+◌, ◌≤◌}
 use native.Mathlib.Omega.{arith}
 use borrow.Author.Tests.{eq-eqb, ne_eqb}
-use lib.ListN.{length, drop}
+use lib.ListN.{drop}
 use Rattle.spelling.specs.Spelling.{matched}
 use Rattle.spelling.specs.Words.{common_most, matched-inside}
 use Rattle.spelling.proofs.Told.{missing, found}
@@ -12,20 +11,13 @@ use Rattle.drawing.specs.Reader.{target_at}
 use Rattle.drawing.proofs.target_at.Goals as goal
 use Rattle.drawing.proofs.target_at.Goals.{Else-not-stands}
 
--- the word stands there, and the text goes on behind it
+-- the word stands there
 word : (c : Else-not-stands) → matched c.args.text.now c.args.at arrow ≡ 4
 word c = found c.stands.ensures c.if-not-stands.false
 
-there : (c : Else-not-stands) → c.args.at + 4 ≤ length c.args.text.now
-there c = omega (arith, word c, matched-inside c.args.text.now c.args.at arrow c.requires)
-
-pub overflow_add-result : goal.overflow_add-result
-overflow_add-result c =
+pub overflow_add-at : goal.overflow_add-at
+overflow_add-at c =
     omega (arith, c.matched.ensures, matched-inside c.args.text.now c.args.at arrow c.requires)
-
-pub returns-then-state : goal.returns-then-state
-unfolding target_at
-returns-then-state c = rw c.if-state.true
 
 pub returns-then-not-stands : goal.returns-then-not-stands
 unfolding target_at
@@ -34,13 +26,20 @@ returns-then-not-stands c =
     rw (
       c.if-state.false,
       missing c.stands.ensures (common_most arrow (drop a.at a.text.now)).0 c.if-not-stands.true,
+      c.left_at.ensures,
       c.matched.ensures,
     )
 
 pub returns-then-target-at : goal.returns-then-target-at
 unfolding target_at
 returns-then-target-at c =
-    rw (c.if-state.false, word (goal.at.returns-then-target-at c).Else-not-stands, ← c.number_at-target.ensures.0, eq-eqb _ _ c.if-target-at.true)
+    rw (
+      c.if-state.false,
+      word (goal.at.returns-then-target-at c).Else-not-stands,
+      ← c.number_at-target.ensures.0,
+      eq-eqb _ _ c.if-target-at.true,
+      c.left_at-then-target-at.ensures,
+    )
 
 pub returns : goal.returns
 unfolding target_at

@@ -31,9 +31,6 @@ returns-then-n-target c before ranked =
 here : (edge : Placed) (e : layout.Edge) (rank : ℕ) → rank ≡ rank_of (some (edge_of e)) → e ≡ bare edge → rank ≡ rank_of (some (values edge))
 here edge e rank r b = r ∙ ap (λ (e : layout.Edge). rank_of (some (edge_of e))) b
 
-pub rank-here-requires : goal.rank-here-requires
-rank-here-requires c = rw c.bare.ensures c.requires
-
 -- behind the tests for 7 the order decides
 
 pub returns-then-here-last-2 : goal.returns-then-here-last-2

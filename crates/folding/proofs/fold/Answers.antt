@@ -12,7 +12,6 @@ use Rattle.refusals.specs.Refusals.{laid}
 use Rattle.layout.specs.Layout.{written}
 use Rattle.layout.specs.Contents.{filter_in}
 use Rattle.files.proofs.Accepted.{reading_is}
-use Rattle.table.specs.Table.{table}
 use Rattle.folding.proofs.Folding.{few_states, start_state, reduce_is, within, filter_is, foldable, list_is, counts_are}
 use Rattle.folding.proofs.fold.Goals as goal
 use Rattle.folding.proofs.fold.Goals.{After-settled-ending}
@@ -25,12 +24,12 @@ ended c =
     let hues = c.colours_of-colours in
     c.settled-ending.ensures.names
     ∙ ap (λ (Q : Classes). Q.names)
-    (reduce_is a.p pre.usable pre.labels≤6 a.file.now a.reading (reading_is a.p a.file.now a.reading pre.answer) (table a.targets.now a.labels.now) hues.result pre.edges hues.ensures.colours)
+    (reduce_is a.p pre.labels≤6 a.file.now a.reading (reading_is a.p a.file.now a.reading pre.answer) a.rows.now hues.result pre.edges hues.ensures.colours)
 
 pub colours_of-colours-requires : goal.colours_of-colours-requires
 colours_of-colours-requires c =
     let a = c.args in
-    (c.requires.usable, (reading_is a.p a.file.now a.reading c.requires.answer).states_are)
+    (reading_is a.p a.file.now a.reading c.requires.answer).states_are
 
 pub settled-ending-requires : goal.settled-ending-requires
 settled-ending-requires c =
@@ -39,12 +38,12 @@ settled-ending-requires c =
     let is = reading_is a.p a.file.now a.reading pre.answer in
     let hues = c.colours_of-colours in (
       record {
-        few = few_states a.p pre.usable pre.labels≤6 a.file.now a.reading is;
+        few = few_states a.p pre.labels≤6 a.file.now a.reading is;
         rows = pre.rows;
-        inside = λ s y t e. (within a.p pre.usable pre.labels≤6 a.file.now a.reading is (table a.targets.now a.labels.now) hues.result pre.edges hues.ensures.colours s y t e).2;
+        inside = λ s y t e. (within a.p pre.labels≤6 a.file.now a.reading is a.rows.now hues.result pre.edges hues.ensures.colours s y t e).2;
         colours_long = hues.ensures.long;
       },
-      start_state a.p pre.usable pre.labels≤6 a.file.now a.reading is,
+      start_state a.p pre.labels≤6 a.file.now a.reading is,
     )
 
 pub merged-made-requires : goal.merged-made-requires
@@ -54,7 +53,7 @@ merged-made-requires c =
     let is = reading_is a.p a.file.now a.reading pre.answer in
     let hues = c.colours_of-colours in
     let bytes : Bytes a.file.now = search rules in
-    foldable a.p pre.usable pre.labels≤6 a.file.now a.reading is (table a.targets.now a.labels.now) hues.result pre.edges hues.ensures.colours _
+    foldable a.p pre.labels≤6 a.file.now a.reading is a.rows.now hues.result pre.edges hues.ensures.colours _
     (ended (goal.at.merged-made-requires c).After-settled-ending) _ _ bytes
     pre.rows hues.ensures.long c.settled-ending.ensures.long pre.answer_room pre.class_room
 
@@ -62,7 +61,7 @@ pub returns : goal.returns
 returns c =
     let a = c.args in
     let pre = c.requires in
-    let T = table a.targets.now a.labels.now in
+    let T = a.rows.now in
     let hues = c.colours_of-colours in
     let made = c.merged-made.ensures in
     let settled = c.settled-ending.ensures in
@@ -70,8 +69,8 @@ returns c =
     let is = reading_is a.p s a.reading pre.answer in
     let end = ended (goal.at.returns c).After-settled-ending in
     record {
-      counts = counts_are a.p pre.usable pre.labels≤6 s a.reading is T hues.result pre.edges hues.ensures.colours _ end _ _ _ _ made.states settled.colours
-          (c.wide.ensures ∙ settled.rounds) made.length;
-      answer = made.answer ∙ ap (λ (F : Filter). laid (written a.p F) a.answer.now) (filter_is a.p pre.usable pre.labels≤6 s a.reading is T hues.result pre.edges hues.ensures.colours _ end);
-      classes = made.list ∙ ap (λ (l : List ℕ). laid l a.classes.now) (list_is a.p pre.usable pre.labels≤6 s a.reading is T hues.result pre.edges hues.ensures.colours _ end);
+      counts = counts_are a.p pre.labels≤6 s a.reading is T hues.result pre.edges hues.ensures.colours _ end _ _ _ _ made.states settled.colours
+          (c.from.ensures ∙ settled.rounds) made.length;
+      answer = made.answer ∙ ap (λ (F : Filter). laid (written a.p F) a.answer.now) (filter_is a.p pre.labels≤6 s a.reading is T hues.result pre.edges hues.ensures.colours _ end);
+      classes = made.list ∙ ap (λ (l : List ℕ). laid l a.classes.now) (list_is a.p pre.labels≤6 s a.reading is T hues.result pre.edges hues.ensures.colours _ end);
     }

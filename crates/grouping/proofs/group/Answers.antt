@@ -1,12 +1,11 @@
 use Prim.Native.Nat.{◌≤◌, ◌+◌}
 use native.Mathlib.Omega.{arith}
 use mathlib.Core.Path.{◌≡◌}
-use Rattle.table.specs.Table.{table}
 use Rattle.conflicts.specs.Conflicts.{clash}
 use Rattle.members.proofs.Laws.{Hop, at_head, hop}
-use Rattle.grouping.proofs.Laws.{grouped_none, grouped_more, grouped_skip, grouped_all, grouped_le, group_of, group_marked, group_is_low}
+use Rattle.grouping.proofs.Laws.{grouped_none, grouped_more, grouped_skip, grouped_le, group_of, group_marked, group_is_low}
 use Rattle.grouping.proofs.group.Goals as goal
-use Rattle.grouping.proofs.group.Goals.{After-smallest_missing, After-wide-s}
+use Rattle.grouping.proofs.group.Goals.{After-smallest_missing, After-from-s}
 
 pub loop-s-init : goal.loop-s-init
 loop-s-init c =
@@ -19,7 +18,7 @@ loop-s-init c =
 chosen : (c : After-smallest_missing)
     → let a = c.args in
     c.smallest_missing.result
-    ≡ group_of (clash (table a.targets.now a.labels.now) a.names.now) a.names.now a.c c.loop-s.into c.loop-s.s
+    ≡ group_of (clash a.rows.now a.names.now) a.names.now a.c c.loop-s.into c.loop-s.s
 chosen c =
     let s = c.loop-s.s in
     let here = c.loop-s-test.true in
@@ -32,12 +31,12 @@ overflow_cast-into c =
     let here = c.loop-s-test.true in
     record { fits = omega (arith, group_is_low _ _ _ _ _ _ (chosen c), here, c.requires.0.few) }
 
-step : (c : After-wide-s)
+step : (c : After-from-s)
     → let a = c.args in
-    Hop a.names.now a.n a.c c.loop-s.s c.wide-s.result
+    Hop a.names.now a.n a.c c.loop-s.s c.from-s.result
 step c =
     let here = c.loop-s-test.true in
-    hop _ _ _ c.requires.0.linked _ _ _ c.loop-s.invariant.0 here c.wide-s.ensures
+    hop _ _ _ c.requires.0.linked _ _ _ c.loop-s.invariant.0 here c.from-s.ensures
 
 pub loop-s-preserved : goal.loop-s-preserved
 loop-s-preserved c =
@@ -45,8 +44,5 @@ loop-s-preserved c =
     let s = c.loop-s.s in
     let here = c.loop-s-test.true in
     let more = grouped_more _ _ _ _ s _ c.loop-s.invariant.1 (omega arith) (chosen (goal.at.loop-s-preserved c).After-smallest_missing) in
-    let within : c.wide-s.result ≤ 256 = omega (arith, next.stands.inside) in
+    let within : c.from-s.result ≤ 256 = omega (arith, next.stands.inside) in
     (next.stands, grouped_skip _ _ _ _ (s + 1) _ more (omega (arith, next.after)) within (λ x h l. next.gap x (omega arith) l))
-
-pub returns : goal.returns
-returns c = grouped_all _ _ _ _ _ _ c.loop-s.invariant.1 (omega arith)

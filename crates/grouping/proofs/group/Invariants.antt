@@ -1,6 +1,5 @@
 -- `grouping::group` meets its contract. The invariant: the members before s have their groups. Assumes nothing.
 use Prim.Native.Nat.{◌-◌}
-use Rattle.table.specs.Table.{table}
 use Rattle.conflicts.specs.Conflicts.{clash}
 use Rattle.members.proofs.Laws.{Standing}
 use Rattle.grouping.specs.Grouping.{Grouped}
@@ -8,7 +7,7 @@ use Rattle.grouping.proofs.group.Given as goal
 
 abbrev pub invariant-loop-s : goal.invariant-loop-s
 invariant-loop-s l =
-    Standing l.names l.n l.c l.s × Grouped (clash (table l.targets l.labels) l.names) l.names l.c l.into l.s
+    Standing l.names l.n l.c l.s × Grouped (clash l.rows l.names) l.names l.c l.into l.s
 
 abbrev pub decreases-loop-s : goal.decreases-loop-s
 decreases-loop-s l = l.n - l.s

@@ -3,9 +3,6 @@ use mathlib.Core.Path.{◌∙◌}
 use Rattle.pen.specs.Runs.{put_fields}
 use Rattle.inking.proofs.fill.Goals as goal
 
-pub finish-requires : goal.finish-requires
-finish-requires c = c.push-filled.ensures.ready
-
 pub returns : goal.returns
 unfolding put_fields
 returns c =

@@ -8,7 +8,7 @@ use lib.ListN.{length, replicate}
 use Rattle.bits.specs.Bits.{Bytes}
 use Rattle.pen.specs.Runs.{total, put_fields}
 use Rattle.layout.proofs.Bounds.{header_high}
-use Rattle.layout.specs.declared.Profile.{Profile}
+use Rattle.layout.specs.declared.profile.Profile.{Profile}
 use Rattle.layout.specs.Layout.{header_widths, header_bits, edges_begin, file_bits, bytes_for, file_length, fill_bits, edge_widths, length_of, flat}
 use Rattle.files.specs.Written.{header_fit, written-laid}
 use Rattle.drawing.specs.Reader.{read_of}
@@ -20,8 +20,7 @@ pub begin-pen-requires : goal.begin-pen-requires
 begin-pen-requires c =
     let w = c.requires.writable in
     record {
-      usable = c.requires.usable;
-      fit = rw (laws.states_are c.args.text.now c.args.s c.requires.known, laws.edges_are c.args.text.now c.args.s c.requires.known, laws.labels_are c.args.text.now c.args.s c.requires.known) (header_fit c.args.p c.requires.usable (filter_read (read_of c.args.text.now)) w);
+      fit = rw (laws.states_are c.args.text.now c.args.s c.requires.known, laws.edges_are c.args.text.now c.args.s c.requires.known, laws.labels_are c.args.text.now c.args.s c.requires.known) (header_fit c.args.p c.args.p.usable (filter_read (read_of c.args.text.now)) w);
       states = rw (laws.states_are c.args.text.now c.args.s c.requires.known) w.states_low;
       labels = rw (laws.labels_are c.args.text.now c.args.s c.requires.known) w.labels_low;
     }
@@ -34,16 +33,11 @@ place_is p place h = omega (arith, h)
 pub put_colours-requires : goal.put_colours-requires
 put_colours-requires c =
     record {
-      usable = c.requires.usable;
       known = c.requires.known;
       writable = c.requires.writable;
       ready = c.begin-pen.ensures.ready;
-      begin = omega (arith, place_is c.args.p _ c.begin-pen.ensures.place, header_high c.args.p c.requires.usable);
+      begin = omega (arith, place_is c.args.p _ c.begin-pen.ensures.place, header_high c.args.p c.args.p.usable);
     }
-
-pub edges_begin-requires : goal.edges_begin-requires
-edges_begin-requires c =
-    (c.requires.usable, laws.states_few c.args.text.now c.args.s c.requires.known c.args.p c.requires.usable c.requires.writable)
 
 pub put_edges-requires : goal.put_edges-requires
 unfolding length_of file_length bytes_for file_bits
@@ -51,7 +45,6 @@ put_edges-requires c =
     let same : length c.put_colours.new.room ≡ length c.args.room.now = c.put_colours.auto.room ∙ c.begin-pen.auto.room in
     let begins : c.edges_begin.result ≡ edges_begin c.args.p (length (filter_read (read_of c.args.text.now)).colours) = rw (← (laws.states_are c.args.text.now c.args.s c.requires.known)) c.edges_begin.ensures.0 in
     record {
-      usable = c.requires.usable;
       known = c.requires.known;
       writable = c.requires.writable;
       begin = c.edges_begin.ensures.1;
@@ -70,4 +63,4 @@ returns c =
     ∙ ap₂ (λ (r : List ℕ) (k : ℕ). put_fields r k (replicate s.states p.colour) (filter_read (read_of c.args.text.now)).colours) c.begin-pen.ensures.ink (place_is p _ c.begin-pen.ensures.place))
     c.edges_begin.ensures.0
     ∙ rw (laws.states_are c.args.text.now c.args.s c.requires.known, laws.edges_are c.args.text.now c.args.s c.requires.known, laws.labels_are c.args.text.now c.args.s c.requires.known)
-    (laws.edges_filled p _ (length (filter_read (read_of c.args.text.now)).colours) (filter_read (read_of c.args.text.now)).edges ∙ written-laid p c.requires.usable (filter_read (read_of c.args.text.now)) c.requires.writable room bytes c.requires.roomy)
+    (laws.edges_filled p _ (length (filter_read (read_of c.args.text.now)).colours) (filter_read (read_of c.args.text.now)).edges ∙ written-laid p p.usable (filter_read (read_of c.args.text.now)) c.requires.writable room bytes c.requires.roomy)

@@ -6,10 +6,7 @@ use lib.Pow.{pow_mono}
 use Rattle.layout.specs.Contents.{states_in}
 use Rattle.layout.proofs.states.Goals as goal
 
-pub overflow_add-result : goal.overflow_add-result
-overflow_add-result c = omega (arith, c.get.ensures.1, pow_mono {j = 8} c.requires.states≤)
-
 pub returns : goal.returns
 unfolding states_in
 returns c =
-    (ap (λ (x : ℕ). x + 1) c.get.ensures.0, omega (arith, c.get.ensures.1, pow_mono {j = 8} c.requires.states≤))
+    (ap (λ (x : ℕ). x + 1) c.get.ensures.0, omega (arith, c.get.ensures.1, pow_mono {j = 8} c.args.p.usable.states≤))

@@ -4,21 +4,18 @@ use Prim.Native.Nat.{ℕ, ◌+◌, ◌*◌}
 use native.Mathlib.Omega.{arith}
 use Rattle.meaning.specs.Cases.{impossible}
 use Rattle.meaning.specs.Filter.{Edge}
-use Rattle.layout.specs.declared.Profile.{Profile}
+use Rattle.layout.specs.declared.profile.Profile.{Profile}
 use Rattle.layout.specs.declared.edge.Placed.{Placed}
 use Rattle.layout.specs.Layout.{edge_bits, edges_begin}
 use Rattle.layout.specs.Contents.{values, placed_at, edge_at}
 use Rattle.leaving.specs.Leaving.{nth_edge}
-use Rattle.leaving.proofs.Laws.{few_states, ends, going_begun, going_end, going_other, going_on, going_leaves}
+use Rattle.leaving.proofs.Laws.{few_states, ends, going_other, going_on, going_leaves}
 use Rattle.leaving.proofs.edges_of.Goals as goal
-
-pub loop-i-init : goal.loop-i-init
-loop-i-init c = going_begun _ _ _ _ c.requires.0 _ c.requires.1 _ _ c.first_from-i.ensures
 
 pub edge_at-edge-requires : goal.edge_at-edge-requires
 edge_at-edge-requires c =
     let passed = c.requires.0 in
-    (passed.usable, few_states _ _ _ _ passed, omega (arith, passed.few, c.loop-i-test.true))
+    (few_states _ _ _ _ passed, omega (arith, passed.few, c.loop-i-test.true))
 
 -- the edge that was read, and where its source stands
 read : (P : Profile) (file : List ℕ) (n i : ℕ) (d : Placed) → d ≡ placed_at P file (edges_begin P n + edge_bits P * i) →
@@ -46,7 +43,7 @@ colour-requires c =
     let passed = c.requires.0 in
     let edge = read c.args.p c.args.file.now c.args.n _ _ c.edge_at-edge.ensures in
     let low = (ends _ _ _ _ passed c.loop-i.i c.loop-i-test.true).1 in
-    (passed.usable, omega (arith, few_states _ _ _ _ passed, ap (λ (d : Edge). d.target) edge))
+    omega (arith, few_states _ _ _ _ passed, ap (λ (d : Edge). d.target) edge)
 
 pub returns-then-colour : goal.returns-then-colour
 returns-then-colour c =
@@ -66,14 +63,3 @@ loop-i-preserved c =
     let edge = read c.args.p c.args.file.now c.args.n _ _ c.edge_at-edge.ensures in
     going_on _ _ _ _ pre.0 _ pre.1 _ _ c.loop-i.invariant c.loop-i-test.true (sym (ap (λ (d : Edge). d.source) edge) ∙ c.if-source-state.false) pre.2
     (rw (← ap (λ (d : Edge). d.target) edge) (sym c.colour.ensures ∙ c.if-colour.false))
-
-pub returns : goal.returns
-returns c =
-    let pre = c.requires in
-    record {
-      none_leaves = λ clear _. going_end _ _ _ _ pre.0 _ pre.1 _ _ c.loop-i.invariant c.loop-i-test.false clear;
-      one_leaves = λ clear f z. impossible cc;
-    }
-
-pub first_from-i-requires : goal.first_from-i-requires
-first_from-i-requires c = c.requires.0

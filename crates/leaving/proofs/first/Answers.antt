@@ -3,12 +3,9 @@ use Prim.Native.Nat.{ℕ, ◌+◌, ◌*◌, ◌≤◌}
 use native.Mathlib.Omega.{arith}
 use Rattle.bits.specs.Bits.{field}
 use Rattle.edges.specs.Walk.{fault_of}
-use Rattle.leaving.proofs.Laws.{few_states, none_left, none_begun, none_eight, none_other}
+use Rattle.leaving.proofs.Laws.{few_states, none_left, none_eight, none_other}
 use Rattle.leaving.proofs.first.Goals as goal
-use Rattle.leaving.proofs.first.Goals.{In-loop-s, then-colour+in-Faultless, else-colour}
-
-pub loop-s-init : goal.loop-s-init
-loop-s-init c = none_begun _ _ _ _ c.requires.0 _ c.requires.1
+use Rattle.leaving.proofs.first.Goals.{In-loop-s, then-colour+in_ok-edges_of, else-colour}
 
 -- states have small numbers
 low : (c : In-loop-s) → c.loop-s.s ≤ 256
@@ -20,33 +17,14 @@ overflow_mul-s c = omega (arith, low c)
 pub overflow_add-begin : goal.overflow_add-begin
 overflow_add-begin c = omega (arith, low c, c.header_bits-begin.ensures.1)
 
-pub some_is_63-requires : goal.some_is_63-requires
-some_is_63-requires c = c.get_long.ensures.1
-
 pub colour-requires : goal.colour-requires
-colour-requires c = (c.requires.0.usable, low (goal.at.colour-requires c).In-loop-s)
-
-pub edges_of-verdict-requires : goal.edges_of-verdict-requires
-edges_of-verdict-requires c =
-    let pre = c.requires in
-    (pre.0, pre.1, sym c.colour.ensures ∙ c.if-colour.true)
-
-pub returns-in_default : goal.returns-in_default
-returns-in_default c =
-    let is = ap fault_of c.in_default.is in
-    is ∙ sym (c.edges_of-verdict.ensures.one_leaves c.loop-s.invariant _ is)
-
-pub overflow_add-s : goal.overflow_add-s
-overflow_add-s c = omega (arith, low (goal.at.overflow_add-s c).In-loop-s)
-
-pub loop-s-smaller-then-some_is_63 : goal.loop-s-smaller-then-some_is_63
-loop-s-smaller-then-some_is_63 c = omega (arith, c.loop-s-test.true)
+colour-requires c = low (goal.at.colour-requires c).In-loop-s
 
 pub loop-s-preserved-then-some_is_63 : goal.loop-s-preserved-then-some_is_63
 loop-s-preserved-then-some_is_63 c =
     let pre = c.requires in
     elim c.if-colour.branch [
-      | then-colour+in-Faultless w ↦ w.edges_of-verdict.ensures.none_leaves c.loop-s.invariant (ap fault_of w.in-Faultless.is)
+      | then-colour+in_ok-edges_of w ↦ w.edges_of.ensures.none_leaves c.loop-s.invariant (ap fault_of w.in_ok-edges_of.was)
       | else-colour w ↦ none_other _ _ _ _ pre.0 _ pre.1 _ c.loop-s.invariant (λ is. w.if-colour.false (c.colour.ensures ∙ is))
     ]
 
@@ -64,6 +42,3 @@ pub returns : goal.returns
 returns c =
     let pre = c.requires in
     sym (none_left _ _ _ _ pre.0 _ pre.1 _ c.loop-s-test.false c.loop-s.invariant)
-
-pub header_bits-begin-requires : goal.header_bits-begin-requires
-header_bits-begin-requires c = c.requires.0.usable

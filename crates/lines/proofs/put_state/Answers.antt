@@ -18,6 +18,6 @@ returns-then-new-eq65535 c =
 pub returns : goal.returns
 returns c =
     let a = c.args in
-    let line = ap (pair_line a.s) c.wide.ensures ∙ numbered_line a.s a.new c.if-new-eq65535.false in
+    let line = ap (pair_line a.s) c.from.ensures ∙ numbered_line a.s a.new c.if-new-eq65535.false in
     let done = same a.room.now a.at line c.put_two.ensures.0 c.put_two.ensures.1 in
     (done.0, done.1, c.put_two.ensures.2)

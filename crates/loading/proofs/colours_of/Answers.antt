@@ -9,17 +9,17 @@ use Rattle.loading.proofs.colours_of.Goals as goal
 
 pub get_run-requires : goal.get_run-requires
 get_run-requires c =
-    let ok = c.requires.0 in
-    let few : c.args.n ≤ 256 = omega (arith, c.requires.1, states_high c.args.p ok c.args.file.now) in
+    let ok = c.args.p.usable in
+    let few : c.args.n ≤ 256 = omega (arith, c.requires, states_high c.args.p ok c.args.file.now) in
     record {
       narrow = ok.colour≤;
-      room = omega (arith, few, c.zero_bytes-hues.ensures.1);
+      room = omega (arith, few, c.filled-hues.ensures.1);
       near = omega (arith, c.header_bits.ensures.1, mul-le-mul few ok.colour≤);
     }
 
 pub returns : goal.returns
 returns c =
     record {
-      colours = colours_read c.args.p c.args.file.now _ _ _ _ 256 c.header_bits.ensures.0 c.requires.1 c.zero_bytes-hues.ensures.0 c.get_run.ensures;
-      long = c.get_run.auto.out ∙ c.zero_bytes-hues.ensures.1;
+      colours = colours_read c.args.p c.args.file.now _ _ _ _ 256 c.header_bits.ensures.0 c.requires c.filled-hues.ensures.0 c.get_run.ensures;
+      long = c.get_run.auto.out ∙ c.filled-hues.ensures.1;
     }

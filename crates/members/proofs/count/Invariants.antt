@@ -1,12 +1,9 @@
 -- `members::count` meets its contract. Assumes nothing.
 use mathlib.Core.Path.{◌≡◌}
-use Prim.Native.Nat.{◌-◌, ◌≤◌}
+use Prim.Native.Nat.{◌≤◌}
 use Rattle.meaning.specs.Search.{count}
 use Rattle.meaning.specs.Classes.{named}
 use Rattle.members.proofs.count.Given as goal
 
 abbrev pub invariant-loop-s : goal.invariant-loop-s
-invariant-loop-s l = (l.s ≤ l.n) × (l.k ≡ count (named l.names) l.s) × (l.k ≤ l.s)
-
-abbrev pub decreases-loop-s : goal.decreases-loop-s
-decreases-loop-s l = l.n - l.s
+invariant-loop-s l = (l.k ≡ count (named l.names) l.s) × (l.k ≤ l.s)

@@ -1,11 +1,10 @@
--- `members::follow` meets its contract. The invariant: the states that the list has from place j on are linked. Assumes nothing.
-use Prim.Native.Nat.{◌≤◌}
-use lib.ListN.{length}
+-- `members::follow` meets its contract. The invariant: the states that the list has behind those that are left are linked. Assumes
+-- nothing.
+use Rattle.std.proofs.Common.{ℕ, List, ◌≡◌, ◌++◌, length}
 use Rattle.members.proofs.Laws.{Linking}
 use Rattle.members.proofs.follow.Given as goal
 
-abbrev pub invariant-loop-j : goal.invariant-loop-j
-invariant-loop-j l = (l.j ≤ length l.live) × Linking l.names l.live l.n l.next l.nearest l.j
-
-abbrev pub decreases-loop-j : goal.decreases-loop-j
-decreases-loop-j l = l.j
+abbrev pub invariant-loop-state : goal.invariant-loop-state
+invariant-loop-state l =
+    let rest = l.state-iterator.iter.rest.now in
+    (behind : List ℕ) × (l.live ≡ rest ++ behind) × Linking l.names l.live l.n l.next l.nearest (length rest)

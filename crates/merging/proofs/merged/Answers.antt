@@ -8,14 +8,14 @@ use Rattle.meaning.specs.Search.{at}
 use Rattle.meaning.specs.SearchLaws.{length-tab}
 use Rattle.meaning.specs.Filter.{Filter}
 use Rattle.meaning.specs.Classes.{classes}
-use Rattle.layout.specs.declared.Profile.{Profile}
+use Rattle.layout.specs.declared.profile.Profile.{Profile}
 use Rattle.layout.specs.declared.Reading.{Reading}
 use Rattle.layout.specs.Layout.{length_of, written}
 use Rattle.refusals.specs.Refusals.{laid}
-use Rattle.table.specs.Table.{Table, table}
+use Rattle.table.specs.Table.{Table}
 use Rattle.storing.specs.Stored.{stored, Packable}
 use Rattle.merging.specs.Merged.{merged_by, Foldable}
-use Rattle.merging.proofs.Making.{ordered, take-laid, few_classes, no_edge, order_long, named_low, Ready, numbers_laid, can_store, hues_long, filter_made}
+use Rattle.merging.proofs.Making.{ordered, take-laid, few_classes, order_long, named_low, Ready, numbers_laid, can_store, hues_long, filter_made}
 use Rattle.merging.proofs.merged.Goals as goal
 use Rattle.merging.proofs.merged.Goals.{After-colours_by}
 
@@ -38,7 +38,7 @@ module _ {p : Profile} {T₀ : Table} {colours names : List ℕ} {r : Reading} {
 
 -- what the steps before the writing have made
 made : (c : After-colours_by) →
-    Ready c.requires (table c.gather.new.targets c.gather.new.labels) (take c.numbered-count.result c.numbered-count.new.order) c.numbered-count.new.list
+    Ready c.requires c.gather.new.rows (take c.numbered-count.result c.numbered-count.new.order) c.numbered-count.new.list
     (take c.numbered-count.result c.colours_by.new.hues)
 made c =
     let k = c.numbered-count.result in
@@ -51,16 +51,11 @@ made c =
       hues_are = take-laid _ _ _ _ c.colours_by.ensures (count_is c.requires k _ c.numbered-count.new.order numbered.count numbered.names ∙ sym (length-tab _ _));
     }
 
-pub gather-requires : goal.gather-requires
-gather-requires c =
-    let can = c.requires in
-    record { names = (can.named, can.rows); by_index = no_edge can }
-
 pub slice_bounds-order-end : goal.slice_bounds-order-end
-slice_bounds-order-end c = omega (arith, few c.requires _ c.numbered-count.ensures.count, c.numbered-count.auto.order, c.fresh-order.ensures.1)
+slice_bounds-order-end c = omega (arith, few c.requires _ c.numbered-count.ensures.count, c.numbered-count.auto.order, c.filled-order.ensures.1)
 
 pub slice_bounds-order-end-2 : goal.slice_bounds-order-end-2
-slice_bounds-order-end-2 c = omega (arith, few c.requires _ c.numbered-count.ensures.count, c.numbered-count.auto.order, c.fresh-order.ensures.1)
+slice_bounds-order-end-2 c = omega (arith, few c.requires _ c.numbered-count.ensures.count, c.numbered-count.auto.order, c.filled-order.ensures.1)
 
 pub slice_bounds-colours_by-end : goal.slice_bounds-colours_by-end
 slice_bounds-colours_by-end c =
@@ -72,13 +67,13 @@ colours_by-requires c =
     let numbered = c.numbered-count.ensures in
     let is = count_is c.requires k _ c.numbered-count.new.order numbered.count numbered.names in
     record {
-      order_in_bounds = (omega (arith, few c.requires k numbered.count, is, c.zero_bytes-hues.ensures.1), c.requires.colours_long);
+      order_in_bounds = (omega (arith, few c.requires k numbered.count, is, c.filled-hues.ensures.1), c.requires.colours_long);
       by_index = named_low c.requires (order_is c.requires k _ c.numbered-count.new.order numbered.count numbered.names);
     }
 
 pub slice_bounds-hues-end : goal.slice_bounds-hues-end
 slice_bounds-hues-end c =
-    omega (arith, few c.requires _ c.numbered-count.ensures.count, c.colours_by.auto.hues, c.zero_bytes-hues.ensures.1)
+    omega (arith, few c.requires _ c.numbered-count.ensures.count, c.colours_by.auto.hues, c.filled-hues.ensures.1)
 
 pub slice_bounds-write-end : goal.slice_bounds-write-end
 slice_bounds-write-end c =
@@ -98,13 +93,13 @@ write-length-requires c =
       rows = can_store can ready;
       labels = can.labels;
       coloured = hues_long can ready;
-      packable = subst (λ (F : Filter). Packable a.p F (length a.answer.now)) (sym (filter_of can ready c.wide-start.ensures)) can.answer_room;
+      packable = subst (λ (F : Filter). Packable a.p F (length a.answer.now)) (sym (filter_of can ready c.from-start.ensures)) can.answer_room;
     }
 
 pub returns : goal.returns
 returns c =
     let a = c.args in
-    let filter = filter_of c.requires (made (goal.at.returns c).After-colours_by) c.wide-start.ensures in
+    let filter = filter_of c.requires (made (goal.at.returns c).After-colours_by) c.from-start.ensures in
     record {
       answer = c.write-length.ensures.bytes ∙ ap (λ (F : Filter). laid (written a.p F) a.answer.now) filter;
       list = c.numbered-count.ensures.list;

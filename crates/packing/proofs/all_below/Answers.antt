@@ -1,31 +1,18 @@
-use mathlib.Core.Path.{sym, ◌∙◌}
-use native.Mathlib.Omega.{arith}
-use Rattle.files.specs.Written.{above_here, below_next, below_end}
+-- `packing::all_below` meets its contract: the test of each value. Assumes nothing.
+use Rattle.std.proofs.Common.{◌≡◌, ℕ, Bool, ltb, ◌&&◌, List, [], ◌∷◌, refl, ap, ◌∙◌, rules, tests}
+use Rattle.std.specs.List.{list_all}
+use Rattle.std.proofs.lemmas.Iterator.{YieldsList-from_slice}
+use Rattle.std.proofs.lemmas.Iterator.Search.{all_from_yields_List}
+use Rattle.files.specs.Files.{all_below}
 use Rattle.packing.proofs.all_below.Goals as goal
 
-pub returns-then-limit-wide_byte : goal.returns-then-limit-wide_byte
-returns-then-limit-wide_byte c =
-    let loop = c.loop-i in
-    let a = c.args in
-    sym (loop.invariant.1 ∙ above_here a.limit a.values.now loop.i (omega arith) (omega (arith, c.wide_byte.ensures.0, c.if-limit-wide_byte.true)))
-
-pub loop-i-preserved : goal.loop-i-preserved
-loop-i-preserved c =
-    let loop = c.loop-i in
-    let a = c.args in
-    (omega arith, loop.invariant.1 ∙ below_next a.limit a.values.now loop.i (omega arith) (omega (arith, c.wide_byte.ensures.0, c.if-limit-wide_byte.false)))
+all_are : (limit : ℕ) (values : List ℕ) → list_all (λ value. ltb value limit) values ≡ all_below limit values
+unfolding all_below
+all_are limit [] = refl
+all_are limit (value ∷ values) = ap (λ (b : Bool). ltb value limit && b) (all_are limit values)
 
 pub returns : goal.returns
 returns c =
-    let loop = c.loop-i in
     let a = c.args in
-    sym (loop.invariant.1 ∙ below_end a.limit a.values.now loop.i c.loop-i-test.false)
-
-pub bounds-values-i : goal.bounds-values-i
-bounds-values-i c = omega arith
-
-pub overflow_add-i : goal.overflow_add-i
-overflow_add-i c = omega arith
-
-pub loop-i-smaller : goal.loop-i-smaller
-loop-i-smaller c = omega arith
+    all_from_yields_List (λ value. ltb value a.limit) _ _ c.all.result c.all.ensures.ran (YieldsList-from_slice a.values.now cc) (λ x b q k. search (rules, tests))
+    ∙ all_are a.limit a.values.now

@@ -7,12 +7,12 @@ pub returns-in_default : goal.returns-in_default
 unfolding leaves
 returns-in_default c = rw c.in_default.is
 
-pub returns-then-wide_byte-colour : goal.returns-then-wide_byte-colour
+pub returns-then-from-colour : goal.returns-then-from-colour
 unfolding leaves
-returns-then-wide_byte-colour c =
-    rw (c.in-Is.is, ← c.wide_byte.ensures.0, ne_eqb _ _ c.if-wide_byte-colour.true)
+returns-then-from-colour c =
+    rw (c.in-Some.is, ← c.from.ensures, ne_eqb _ _ c.if-from-colour.true)
 
 pub returns : goal.returns
 unfolding leaves
 returns c =
-    rw (c.in-Is.is, ← c.wide_byte.ensures.0, eq-eqb _ _ c.if-wide_byte-colour.false, ← c.wide_byte-2.ensures.0)
+    rw (c.in-Some.is, ← c.from.ensures, eq-eqb _ _ c.if-from-colour.false, ← c.from-2.ensures)

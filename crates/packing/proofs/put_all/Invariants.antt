@@ -1,12 +1,9 @@
 -- `packing::put_all` meets its contract. The invariant: the edges so far are drawn, one behind another. Assumes nothing.
-use Prim.Native.Nat.{◌*◌, ◌-◌, ◌≤◌}
+use Prim.Native.Nat.{◌*◌}
 use lib.ListN.{take}
 use Rattle.pen.specs.Runs.{Drawn}
 use Rattle.layout.specs.Layout.{edge_widths}
 use Rattle.packing.proofs.put_all.Given as goal
 
 abbrev pub invariant-loop-i : goal.invariant-loop-i
-invariant-loop-i l = (l.i ≤ l.e) × Drawn l.initial.part l.bit (edge_widths l.p l.i) (take (3 * l.i) l.edges) l.part l.pen
-
-abbrev pub decreases-loop-i : goal.decreases-loop-i
-decreases-loop-i l = l.e - l.i
+invariant-loop-i l = Drawn l.initial.part l.bit (edge_widths l.p l.i) (take (3 * l.i) l.edges) l.part l.pen

@@ -1,26 +1,23 @@
 use mathlib.Core.Path.{◌≡◌, ap, sym, ◌∙◌}
 use mathlib.Core.List.{List, ◌∷◌}
-use mathlib.Core.Option.{Option, none, some}
+use mathlib.Core.Option.{Option, some}
 use Prim.Native.Nat.{suc, ◌+◌, ◌*◌, ◌/◌}
 use native.Mathlib.Numerals.{add-one}
 use native.Mathlib.Omega.{arith}
-use borrow.Author.Rules.{rules}
 use lib.ListN.{length, drop}
+use Rattle.std.proofs.lemmas.Result.{err_from_is_err_and}
 use Rattle.meaning.specs.Filter.{Edge}
 use Rattle.layout.specs.declared.edge.Placed.{Placed}
 use Rattle.layout.specs.Layout.{colour_of, threes}
 use Rattle.layout.specs.Code.{edge_of}
 use Rattle.layout.proofs.EdgeLists.{threes-cons, threes_end}
-use Rattle.edges.specs.declared.Verdict.{Verdict}
+use Rattle.edges.specs.Walk.{Verdict}
 use Rattle.edges.specs.Faults.{listed_at, listed_from, Fault, faulty, edge_fault, or_else, first_fault, first_leaving}
 use Rattle.edges.specs.Walk.{fault_of}
-use Rattle.edges.proofs.Tests.{ranked_none, ranked_edge, clear_ends, fault_here, fault_next, else_else, else_none}
+use Rattle.edges.proofs.Tests.{ranked_edge, clear_ends, fault_here, fault_next, else_else, else_none}
 use Rattle.edges.proofs.Leaving.{leaving_here, leaving_next}
 use Rattle.packing.proofs.test_list.Goals as goal
-use Rattle.packing.proofs.test_list.Goals.{After-edge_in-edge, After-test-verdict, Joined-leaves, then-leaves, else-leaves}
-
-pub loop-i-init : goal.loop-i-init
-loop-i-init c = record { inside = omega arith; before = none; ranked = ranked_none; left = search rules; leaving = search rules }
+use Rattle.packing.proofs.test_list.Goals.{After-edge_in-edge, After-test, Joined-leaves, then-leaves, else-leaves}
 
 -- the edges left begin with the edge that was read
 here : (c : After-edge_in-edge) →
@@ -34,27 +31,28 @@ here c =
     rw (threes-cons edges (3 * i) (omega arith), add-one i)
     (ap (λ (e : Edge). listed_at i e ∷ listed_from (suc i) (threes (drop (3 * i + 3) edges))) (sym c.edge_in-edge.ensures.0))
 
-pub test-verdict-requires : goal.test-verdict-requires
-test-verdict-requires c = rw c.listed.ensures c.edge_in-edge.ensures.1
+pub test-requires : goal.test-requires
+test-requires c = rw c.listed.ensures c.edge_in-edge.ensures.1
 
 -- what the test found is the edge's fault
-verdict_is : (c : After-test-verdict) →
+verdict_is : (c : After-test) →
     let a = c.args in
-    edge_fault (length a.colours.now) a.m c.loop-i.invariant.before (listed_at c.loop-i.i (edge_of c.edge_in-edge.result)) ≡ fault_of c.test-verdict.result
+    edge_fault (length a.colours.now) a.m c.loop-i.invariant.before (listed_at c.loop-i.i (edge_of c.edge_in-edge.result)) ≡ fault_of c.test.result
 verdict_is c =
     let inv = c.loop-i.invariant in
-    sym (rw c.listed.ensures at (c.test-verdict.ensures inv.before inv.ranked))
+    sym (rw c.listed.ensures at (c.test.ensures inv.before inv.ranked))
 
-pub returns-in_default : goal.returns-in_default
-returns-in_default c =
+pub returns-in_err-test : goal.returns-in_err-test
+returns-in_err-test c =
     let inv = c.loop-i.invariant in
-    let g = ap fault_of c.in_default.is in
-    let first = inv.left ∙ ap (first_fault _ _ inv.before) (here (goal.at.returns-in_default c).After-edge_in-edge) ∙ fault_here _ _ inv.before (listed_at _ (edge_of c.edge_in-edge.result)) _ _ (verdict_is (goal.at.returns-in_default c).After-test-verdict ∙ g) in
-    rw first g
+    let p = err_from_is_err_and c.from_residual.result c.from_residual.ensures.1 in
+    let g = ap fault_of c.in_err-test.was in
+    let first = inv.left ∙ ap (first_fault _ _ inv.before) (here (goal.at.returns-in_err-test c).After-edge_in-edge) ∙ fault_here _ _ inv.before (listed_at _ (edge_of c.edge_in-edge.result)) _ _ (verdict_is (goal.at.returns-in_err-test c).After-test ∙ g) in
+    rw (p.1, p.2, first)
 
 pub leaves-requires : goal.leaves-requires
 leaves-requires c =
-    clear_ends _ _ _ (listed_at _ (edge_of c.edge_in-edge.result)) (verdict_is (goal.at.leaves-requires c).After-test-verdict ∙ ap fault_of c.in-Faultless.is)
+    clear_ends _ _ _ (listed_at _ (edge_of c.edge_in-edge.result)) (verdict_is (goal.at.leaves-requires c).After-test ∙ ap fault_of c.in_ok-test.was)
 
 -- the edge is remembered if it leaves the fault colour and no edge before it does
 remembered : (c : Joined-leaves) (es : List Placed) →
@@ -81,10 +79,9 @@ pub loop-i-preserved : goal.loop-i-preserved
 loop-i-preserved c =
     let loop = c.loop-i in
     let edge = edge_of c.edge_in-edge.result in
-    let clear = verdict_is (goal.at.loop-i-preserved c).After-test-verdict ∙ ap fault_of c.in-Faultless.is in
+    let clear = verdict_is (goal.at.loop-i-preserved c).After-test ∙ ap fault_of c.in_ok-test.was in
     let next : 3 * (loop.i + 1) ≡ 3 * loop.i + 3 = omega arith in
     record {
-      inside = omega arith;
       before = some edge;
       ranked = ranked_edge _ edge c.rank-last.ensures c.edge_in-edge.ensures.1.label;
       left = loop.invariant.left ∙ rw (here (goal.at.loop-i-preserved c).After-edge_in-edge, next) (fault_next _ _ loop.invariant.before (listed_at loop.i edge) _ clear);
@@ -104,9 +101,3 @@ edge_in-edge-requires c = omega arith
 
 pub rank-last-requires : goal.rank-last-requires
 rank-last-requires c = c.edge_in-edge.ensures.1
-
-pub overflow_add-i : goal.overflow_add-i
-overflow_add-i c = omega arith
-
-pub loop-i-smaller : goal.loop-i-smaller
-loop-i-smaller c = omega arith

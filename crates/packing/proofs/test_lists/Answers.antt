@@ -9,7 +9,8 @@ use native.Mathlib.Omega.{arith}
 use borrow.Author.Tests.{lt-ltb, le-ltb, le-leb, lt-leb, eq-eqb, ne_eqb}
 use lib.Dec.{eqb}
 use lib.ListN.{length}
-use Rattle.layout.specs.declared.Profile.{Profile}
+use Rattle.std.proofs.lemmas.Result.{err_from_is_err_and}
+use Rattle.layout.specs.declared.profile.Profile.{Profile}
 use Rattle.layout.specs.Layout.{fault_colour, bytes_for, file_bits, file_length, length_of, threes, from_lists}
 use Rattle.layout.specs.Code.{Usable}
 use Rattle.refusals.specs.Refusals.{accepted, first_of, room_test}
@@ -84,7 +85,7 @@ returns-then-n-start c =
 
 pub overflow_mul-n : goal.overflow_mul-n
 overflow_mul-n c =
-    omega (arith, product_few c.args.p c.args.colours.now c.args.m c.requires (sym c.holdable.ensures ∙ c.if-not-holdable.false))
+    omega (arith, product_few c.args.p c.args.colours.now c.args.m c.args.p.usable (sym c.holdable.ensures ∙ c.if-not-holdable.false))
 
 pub returns-then-n-m : goal.returns-then-n-m
 unfolding pack_of write_of write_tests
@@ -103,23 +104,25 @@ pub file_bits-requires : goal.file_bits-requires
 file_bits-requires c =
     let holds = sym c.holdable.ensures ∙ c.if-not-holdable.false in
     let a = c.args in
-    (c.requires, states_few a.p a.colours.now a.m c.requires holds, le_trans c.if-n-m.false (product_few a.p a.colours.now a.m c.requires holds))
+    (states_few a.p a.colours.now a.m a.p.usable holds, le_trans c.if-n-m.false (product_few a.p a.colours.now a.m a.p.usable holds))
 
-pub returns-in_default : goal.returns-in_default
-returns-in_default c =
+pub returns-in_err-test_list : goal.returns-in_err-test_list
+returns-in_err-test_list c =
+    let a = c.args in
+    let is = sym c.test_list.ensures ∙ ap fault_of c.in_err-test_list.was in
+    let p = err_from_is_err_and c.from_residual.result c.from_residual.ensures.1 in
+    rw (p.1, p.2)
+    (sym (tested a.p a.colours.now a.edges.now a.m a.start a.room (sym c.holdable.ensures ∙ c.if-not-holdable.false) c.if-edges-ne0.false
+    c.if-n-start.false c.if-n-m.false ∙ rw is))
+
+pub returns : goal.returns
+returns c =
     let a = c.args in
     let cs = a.colours.now in
     let es = a.edges.now in
-    let clear : or_else (own cs es a.m) (leaving a.p cs es) ≡ none = sym c.test_list-verdict.ensures ∙ ap fault_of c.in_default.is in
+    let clear : or_else (own cs es a.m) (leaving a.p cs es) ≡ none = sym c.test_list.ensures ∙ ap fault_of c.in_ok-test_list.was in
     let bytes : c.bytes_for.result ≡ length_of a.p (from_lists cs es a.m a.start) =
     c.bytes_for.ensures ∙ ap bytes_for c.file_bits.ensures.0 ∙ length_is a.p cs es a.m a.start c.if-edges-ne0.false in
     c.test_room.ensures
     ∙ ap (λ (n : ℕ). first_of (room_test n a.room) (accepted (n ∷ []))) bytes
     ∙ sym (tested a.p cs es a.m a.start a.room (sym c.holdable.ensures ∙ c.if-not-holdable.false) c.if-edges-ne0.false c.if-n-start.false c.if-n-m.false ∙ rw clear)
-
-pub returns : goal.returns
-returns c =
-    let a = c.args in
-    let is = sym c.test_list-verdict.ensures ∙ ap fault_of c.in-Faulty.is in
-    sym (tested a.p a.colours.now a.edges.now a.m a.start a.room (sym c.holdable.ensures ∙ c.if-not-holdable.false) c.if-edges-ne0.false
-    c.if-n-start.false c.if-n-m.false ∙ rw is)

@@ -16,14 +16,14 @@ use Rattle.packing.proofs.write.Goals as goal
 
 pub put-requires : goal.put-requires
 put-requires c =
-    let w = (pack_passed c.args.p c.requires.0 c.args.colours.now c.args.edges.now c.args.m c.args.start (length c.args.room.now) _ c.requires.1).writable in
-    record { usable = c.requires.0; fit = rw (count-listed c.args.p c.requires.0 c.args.colours.now c.args.edges.now c.args.m c.args.start (length c.args.room.now) _ c.requires.1) at (header_fit c.args.p c.requires.0 (from_lists c.args.colours.now c.args.edges.now c.args.m c.args.start) w); states = w.states_low; labels = w.labels_low }
+    let w = (pack_passed c.args.p c.args.p.usable c.args.colours.now c.args.edges.now c.args.m c.args.start (length c.args.room.now) _ c.requires).writable in
+    record { fit = rw (count-listed c.args.p c.args.p.usable c.args.colours.now c.args.edges.now c.args.m c.args.start (length c.args.room.now) _ c.requires) at (header_fit c.args.p c.args.p.usable (from_lists c.args.colours.now c.args.edges.now c.args.m c.args.start) w); states = w.states_low; labels = w.labels_low }
 
 pub put_run-requires : goal.put_run-requires
 put_run-requires c =
     let p = c.args.p in
-    let ok = c.requires.0 in
-    let w = (pack_passed c.args.p c.requires.0 c.args.colours.now c.args.edges.now c.args.m c.args.start (length c.args.room.now) _ c.requires.1).writable in
+    let ok = c.args.p.usable in
+    let w = (pack_passed c.args.p c.args.p.usable c.args.colours.now c.args.edges.now c.args.m c.args.start (length c.args.room.now) _ c.requires).writable in
     let n = length c.args.colours.now in
     record {
       narrow = ok.colour≤;
@@ -33,26 +33,25 @@ put_run-requires c =
 
 pub edges_begin-requires : goal.edges_begin-requires
 edges_begin-requires c =
-    (c.requires.0, states≤256 c.args.p c.requires.0 (from_lists c.args.colours.now c.args.edges.now c.args.m c.args.start) (pack_passed c.args.p c.requires.0 c.args.colours.now c.args.edges.now c.args.m c.args.start (length c.args.room.now) _ c.requires.1).writable)
+    states≤256 c.args.p c.args.p.usable (from_lists c.args.colours.now c.args.edges.now c.args.m c.args.start) (pack_passed c.args.p c.args.p.usable c.args.colours.now c.args.edges.now c.args.m c.args.start (length c.args.room.now) _ c.requires).writable
 
 pub put_edges-requires : goal.put_edges-requires
 unfolding length_of file_length bytes_for file_bits
 put_edges-requires c =
     let p = c.args.p in
-    let w = (pack_passed c.args.p c.requires.0 c.args.colours.now c.args.edges.now c.args.m c.args.start (length c.args.room.now) _ c.requires.1).writable in
+    let w = (pack_passed c.args.p c.args.p.usable c.args.colours.now c.args.edges.now c.args.m c.args.start (length c.args.room.now) _ c.requires).writable in
     let same : length c.put_run.new.s ≡ length c.args.room.now = c.put_run.auto.s ∙ c.put.auto.room in
     record {
-      usable = c.requires.0;
       begin = c.edges_begin.ensures.1;
-      few = rw (← count-listed c.args.p c.requires.0 c.args.colours.now c.args.edges.now c.args.m c.args.start (length c.args.room.now) _ c.requires.1) (count≤65536 p c.requires.0 (from_lists c.args.colours.now c.args.edges.now c.args.m c.args.start) w);
-      fit = rw (count-listed c.args.p c.requires.0 c.args.colours.now c.args.edges.now c.args.m c.args.start (length c.args.room.now) _ c.requires.1, flat-listed c.args.p c.requires.0 c.args.colours.now c.args.edges.now c.args.m c.args.start (length c.args.room.now) _ c.requires.1) at (edges_fit p c.requires.0 (from_lists c.args.colours.now c.args.edges.now c.args.m c.args.start) w);
-      reaches = omega (arith, same, c.edges_begin.ensures.0, (pack_passed c.args.p c.requires.0 c.args.colours.now c.args.edges.now c.args.m c.args.start (length c.args.room.now) _ c.requires.1).roomy);
+      few = rw (← count-listed c.args.p c.args.p.usable c.args.colours.now c.args.edges.now c.args.m c.args.start (length c.args.room.now) _ c.requires) (count≤65536 p c.args.p.usable (from_lists c.args.colours.now c.args.edges.now c.args.m c.args.start) w);
+      fit = rw (count-listed c.args.p c.args.p.usable c.args.colours.now c.args.edges.now c.args.m c.args.start (length c.args.room.now) _ c.requires, flat-listed c.args.p c.args.p.usable c.args.colours.now c.args.edges.now c.args.m c.args.start (length c.args.room.now) _ c.requires) at (edges_fit p c.args.p.usable (from_lists c.args.colours.now c.args.edges.now c.args.m c.args.start) w);
+      reaches = omega (arith, same, c.edges_begin.ensures.0, (pack_passed c.args.p c.args.p.usable c.args.colours.now c.args.edges.now c.args.m c.args.start (length c.args.room.now) _ c.requires).roomy);
     }
 
 pub fill-requires : goal.fill-requires
 fill-requires c =
-    let w = (pack_passed c.args.p c.requires.0 c.args.colours.now c.args.edges.now c.args.m c.args.start (length c.args.room.now) _ c.requires.1).writable in
-    (c.requires.0, states≤256 c.args.p c.requires.0 (from_lists c.args.colours.now c.args.edges.now c.args.m c.args.start) w, rw (← count-listed c.args.p c.requires.0 c.args.colours.now c.args.edges.now c.args.m c.args.start (length c.args.room.now) _ c.requires.1) (count≤65536 c.args.p c.requires.0 (from_lists c.args.colours.now c.args.edges.now c.args.m c.args.start) w))
+    let w = (pack_passed c.args.p c.args.p.usable c.args.colours.now c.args.edges.now c.args.m c.args.start (length c.args.room.now) _ c.requires).writable in
+    (states≤256 c.args.p c.args.p.usable (from_lists c.args.colours.now c.args.edges.now c.args.m c.args.start) w, rw (← count-listed c.args.p c.args.p.usable c.args.colours.now c.args.edges.now c.args.m c.args.start (length c.args.room.now) _ c.requires) (count≤65536 c.args.p c.args.p.usable (from_lists c.args.colours.now c.args.edges.now c.args.m c.args.start) w))
 
 pub returns : goal.returns
 returns c =
@@ -69,4 +68,4 @@ returns c =
     ∙ ap₂ (λ (s : List ℕ) (at : ℕ). put_fields s at (edge_widths p e) edges)
     (c.put_run.ensures ∙ ap₂ (λ (s : List ℕ) (at : ℕ). put_fields s at (replicate n p.colour) colours) c.put.ensures c.header_bits.ensures.0)
     c.edges_begin.ensures.0)
-    ∙ (rw (count-listed c.args.p c.requires.0 c.args.colours.now c.args.edges.now c.args.m c.args.start (length c.args.room.now) _ c.requires.1, flat-listed c.args.p c.requires.0 c.args.colours.now c.args.edges.now c.args.m c.args.start (length c.args.room.now) _ c.requires.1) at (written-laid p c.requires.0 (from_lists c.args.colours.now c.args.edges.now c.args.m c.args.start) (pack_passed c.args.p c.requires.0 c.args.colours.now c.args.edges.now c.args.m c.args.start (length c.args.room.now) _ c.requires.1).writable room bytes (pack_passed c.args.p c.requires.0 c.args.colours.now c.args.edges.now c.args.m c.args.start (length c.args.room.now) _ c.requires.1).roomy))
+    ∙ (rw (count-listed c.args.p c.args.p.usable c.args.colours.now c.args.edges.now c.args.m c.args.start (length c.args.room.now) _ c.requires, flat-listed c.args.p c.args.p.usable c.args.colours.now c.args.edges.now c.args.m c.args.start (length c.args.room.now) _ c.requires) at (written-laid p c.args.p.usable (from_lists c.args.colours.now c.args.edges.now c.args.m c.args.start) (pack_passed c.args.p c.args.p.usable c.args.colours.now c.args.edges.now c.args.m c.args.start (length c.args.room.now) _ c.requires).writable room bytes (pack_passed c.args.p c.args.p.usable c.args.colours.now c.args.edges.now c.args.m c.args.start (length c.args.room.now) _ c.requires).roomy))

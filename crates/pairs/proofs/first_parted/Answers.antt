@@ -1,35 +1,43 @@
 use Prim.Native.Nat.{◌<◌}
 use native.Mathlib.Omega.{arith}
-use mathlib.Core.Path.{sym, ◌∙◌}
-use Rattle.pairs.proofs.Laws.{parted_none, parted_pair, parted_own, tried_more, tried_here, tried_all}
+use mathlib.Core.Path.{◌≡◌, sym, ◌∙◌}
+use mathlib.Core.Bool.{false}
+use Rattle.meaning.specs.Classes.{parted}
+use Rattle.conflicts.specs.Conflicts.{clash}
+use Rattle.members.proofs.Laws.{heads}
+use Rattle.pairs.proofs.Laws.{found-parted, parted_own, tried_more, tried_here, tried_all}
 use Rattle.pairs.proofs.first_parted.Goals as goal
-use Rattle.pairs.proofs.first_parted.Goals.{After-wide-c, then-names-c+in_default, else-names-c}
+use Rattle.pairs.proofs.first_parted.Goals.{After-from-c, then-names-c+else-is_some, else-names-c}
 
 -- the state that is looked at is one of the n
-state-low : (c : After-wide-c) → c.wide-c.result < c.args.n
-state-low c = omega (arith, c.wide-c.ensures, c.requires.2.rises.below _ c.loop-j-test.true)
+state-low : (c : After-from-c) → c.from-c.result < c.args.n
+state-low c = omega (arith, c.from-c.ensures, c.requires.2.rises.below _ c.loop-state-test.true)
 
-pub returns-in-Pair : goal.returns-in-Pair
-returns-in-Pair c =
+pub pair_in-requires : goal.pair_in-requires
+pair_in-requires c =
     let pre = c.requires in
-    let here = c.loop-j-test.true in
-    let hit = parted_pair _ _ _ _ _ _ (sym c.in-Pair.is ∙ c.pair_in-found.ensures) in
-    c.wide-c.ensures
-    ∙ tried_here _ _ _ _ pre.1 pre.2 _ c.loop-j.invariant.1 here (rw (← c.wide-c.ensures) hit)
+    (pre.0, heads _ _ pre.1 _ (state-low (goal.at.pair_in-requires c).After-from-c) c.if-names-c.true)
 
-pub loop-j-preserved : goal.loop-j-preserved
-loop-j-preserved c =
+pub returns-then-is_some : goal.returns-then-is_some
+returns-then-is_some c =
+    let pre = c.requires in
+    let here = c.loop-state-test.true in
+    let hit = found-parted _ _ _ _ _ c.pair_in.ensures ∙ sym c.is_some.ensures ∙ c.if-is_some.true in
+    let first = tried_here _ _ _ _ pre.1 pre.2 _ c.loop-state.invariant here (rw (← c.from-c.ensures) hit) in
+    (sym first ∙ sym c.from-c.ensures, state-low (goal.at.returns-then-is_some c).After-from-c)
+
+pub loop-state-preserved : goal.loop-state-preserved
+loop-state-preserved c =
     let a = c.args in
-    let pre = c.requires in (
-      omega arith,
-      tried_more a.n _ a.names.now a.live.now _ c.wide-c.result c.loop-j.invariant.1 c.wide-c.ensures
-          (elim c.if-names-c.branch [
-            | then-names-c+in_default v ↦ parted_none _ _ _ _ (sym v.in_default.is ∙ v.pair_in-found.ensures)
-            | else-names-c v ↦ parted_own _ _ _ pre.1 _ (state-low (goal.at.loop-j-preserved c).After-wide-c) v.if-names-c.false
-          ]),
-    )
+    let pre = c.requires in
+    let calm : parted a.n (clash a.rows.now a.names.now) a.names.now c.from-c.result ≡ false =
+    elim c.if-names-c.branch [
+      | then-names-c+else-is_some v ↦ found-parted _ _ _ _ _ v.pair_in.ensures ∙ sym v.is_some.ensures ∙ v.if-is_some.false
+      | else-names-c v ↦ parted_own _ _ _ pre.1 _ (state-low (goal.at.loop-state-preserved c).After-from-c) v.if-names-c.false
+    ] in
+    tried_more a.n _ a.names.now a.live.now _ c.from-c.result c.loop-state.invariant c.from-c.ensures calm
 
 pub returns : goal.returns
 returns c =
     let pre = c.requires in
-    tried_all _ _ _ _ pre.1 pre.2 _ c.loop-j.invariant.1 c.loop-j-test.false
+    sym (tried_all _ _ _ _ pre.1 pre.2 _ c.loop-state.invariant c.loop-state-test.false)

@@ -1,8 +1,7 @@
 use mathlib.Core.Path.{◌≡◌}
-use Prim.Native.Nat.{ℕ, ◌*◌, ◌%◌, ◌^◌, ◌<◌}
+use Prim.Native.Nat.{ℕ, ◌+◌, ◌*◌, ◌/◌, ◌%◌, ◌^◌, ◌≤◌, ◌<◌}
 use native.Mathlib.Nat.{lt_of_lt_of_le, mod-lt}
 use native.Mathlib.Omega.{arith}
-use lib.ListN.{length-set}
 use lib.Pow.{pow_mono, pow_pos}
 use mir.Syntax.{w8}
 use mir.Val.{Fits}
@@ -31,16 +30,22 @@ byte c v h = record { fits = lt_of_lt_of_le h (pow_mono c.requires.narrow) }
 pub overflow_cast-out : goal.overflow_cast-out
 overflow_cast-out c = rw (parts c).first (byte c _ (field_lt _ _ _))
 
+-- three more are asked for
+room : (c : After-get-three) → 3 * c.loop-i.i + 3 ≤ c.args.n
+room c = omega arith
+
 pub overflow_add-p : goal.overflow_add-p
-overflow_add-p c = record { fits = read_near 3 (2 ^ 64) c.loop-i.invariant c.loop-i-test.true c.requires.near }
+overflow_add-p c = record { fits = read_near 3 (2 ^ 64) c.loop-i.invariant (room c) c.requires.near }
 
 pub loop-i-preserved : goal.loop-i-preserved
 loop-i-preserved c =
-    rw (low c) (read_three c.get-three.result c.loop-i.invariant c.loop-i-test.true c.requires.room
-    (parts c))
+    let next : 3 * (c.loop-i.i + 1) ≡ 3 * c.loop-i.i + 3 = omega arith in
+    rw (low c, next) (read_three c.get-three.result c.loop-i.invariant (room c) c.requires.room (parts c))
 
 pub returns : goal.returns
-returns c = record { fields = c.loop-i.invariant.made; count = c.loop-i.invariant.few }
+returns c =
+    let all : c.loop-i.i ≡ c.args.n / 3 = omega arith in
+    record { fields = rw all at c.loop-i.invariant.made; count = omega arith }
 
 pub nonzero_rem-out : goal.nonzero_rem-out
 nonzero_rem-out c = rw (low c) (pow_pos (width c))
@@ -48,14 +53,8 @@ nonzero_rem-out c = rw (low c) (pow_pos (width c))
 pub overflow_cast-out-in-loop-i : goal.overflow_cast-out-in-loop-i
 overflow_cast-out-in-loop-i c = rw (low c) (byte c _ (mod-lt _ (pow_pos (width c))))
 
-pub bounds-out-i-in-loop-i : goal.bounds-out-i-in-loop-i
-bounds-out-i-in-loop-i c = simp length-set (omega arith)
-
 pub nonzero_rem-out-in-loop-i : goal.nonzero_rem-out-in-loop-i
 nonzero_rem-out-in-loop-i c = rw (low c) (pow_pos (width c))
 
 pub overflow_cast-out-in-loop-i-2 : goal.overflow_cast-out-in-loop-i-2
 overflow_cast-out-in-loop-i-2 c = rw (low c) (byte c _ (mod-lt _ (pow_pos (width c))))
-
-pub bounds-out-i-in-loop-i-2 : goal.bounds-out-i-in-loop-i-2
-bounds-out-i-in-loop-i-2 c = simp length-set (omega arith)

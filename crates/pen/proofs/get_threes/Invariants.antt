@@ -1,9 +1,6 @@
-use Prim.Native.Nat.{◌-◌}
+use Prim.Native.Nat.{◌*◌}
 use Rattle.pen.proofs.Reading.{Read}
 use Rattle.pen.proofs.get_threes.Given as goal
 
 abbrev pub invariant-loop-i : goal.invariant-loop-i
-invariant-loop-i l = Read l.s l.at l.width l.n l.initial.out l.out l.i l.p
-
-abbrev pub decreases-loop-i : goal.decreases-loop-i
-decreases-loop-i l = l.n - l.i
+invariant-loop-i l = Read l.s l.at l.width l.n l.initial.out l.out (3 * l.i) l.p

@@ -1,6 +1,7 @@
 -- `pierhollow::pierhollow_from_dot` meets its contract. Assumes nothing.
-use Rattle.telling.proofs.Telling.{told}
+use Rattle.telling.proofs.Telling.{told_as}
+use Rattle.telling.proofs.Outcomes.{as_made}
 use Rattle.pierhollow.proofs.pierhollow_from_dot.Goals as goal
 
 pub returns : goal.returns
-returns c = told c.from_dot.ensures c.made.ensures
+returns c = told_as (as_made c.from_dot.result) c.from_dot.ensures c.told.ensures

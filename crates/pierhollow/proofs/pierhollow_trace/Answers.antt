@@ -1,6 +1,7 @@
 -- `pierhollow::pierhollow_trace` meets its contract. Assumes nothing.
-use Rattle.telling.proofs.Telling.{told}
+use Rattle.telling.proofs.Telling.{told_as}
+use Rattle.telling.proofs.Outcomes.{as_traced}
 use Rattle.pierhollow.proofs.pierhollow_trace.Goals as goal
 
 pub returns : goal.returns
-returns c = told c.trace.ensures c.traced.ensures
+returns c = told_as (as_traced c.trace.result) c.trace.ensures c.told.ensures

@@ -1,6 +1,7 @@
 -- `pierhollow_pocket::pierhollow_pocket_reduce` meets its contract. Assumes nothing.
-use Rattle.telling.proofs.Telling.{told}
+use Rattle.telling.proofs.Telling.{told_as}
+use Rattle.telling.proofs.Outcomes.{as_reduced}
 use Rattle.pierhollow_pocket.proofs.pierhollow_pocket_reduce.Goals as goal
 
 pub returns : goal.returns
-returns c = told c.pocket_reduce.ensures c.reduced.ensures
+returns c = told_as (as_reduced c.reduce.result) c.reduce.ensures c.told.ensures

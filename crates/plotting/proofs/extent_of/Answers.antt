@@ -12,11 +12,11 @@ use Rattle.plotting.proofs.extent_of.Goals as goal
 
 pub edges_begin-requires : goal.edges_begin-requires
 edges_begin-requires c =
-    (c.requires.usable, (few c.args.p c.args.file.now c.requires).0)
+    (few c.args.p c.args.file.now c.requires).0
 
 pub edges_extent-edges-requires : goal.edges_extent-edges-requires
 edges_extent-edges-requires c =
-    (c.requires.usable, c.edges_begin.ensures.1, (few c.args.p c.args.file.now c.requires).1)
+    (c.edges_begin.ensures.1, (few c.args.p c.args.file.now c.requires).1)
 
 pub states_length-requires : goal.states_length-requires
 states_length-requires c =
@@ -37,7 +37,7 @@ pub returns : goal.returns
 returns c =
     let p = c.args.p in
     let file = c.args.file.now in
-    let colours = colours_taken p file c.requires.usable c.args.colours.now c.args.n c.requires.states c.requires.coloured in
+    let colours = colours_taken p file p.usable c.args.colours.now c.args.n c.requires.states c.requires.coloured in
     let listed = edges_are p file c.args.n c.args.e c.edges_begin.result c.requires.states c.requires.edges c.edges_begin.ensures.0 in
     let first = c.states_length.ensures.0 ∙ ap (λ (cs : List ℕ). length (state_lines 0 cs)) colours in
     let second = c.edges_extent-edges.ensures.0 ∙ ap (λ (es : List Edge). length (edge_lines es)) listed in

@@ -5,7 +5,7 @@ use Prim.Native.Nat.{ℕ}
 use native.Mathlib.Omega.{arith}
 use lib.ListN.{length, take}
 use Rattle.text.proofs.Laws.{same, both}
-use Rattle.layout.specs.declared.Profile.{Profile}
+use Rattle.layout.specs.declared.profile.Profile.{Profile}
 use Rattle.layout.specs.Layout.{edges_begin}
 use Rattle.layout.specs.Contents.{colours_in, edges_from, edges_in}
 use Rattle.drawing.specs.Profile.{opening, closing, state_lines, edge_lines}
@@ -17,7 +17,7 @@ use Rattle.plotting.proofs.put.Goals as goal
 -- each piece as the code has it is a piece of the text
 module _ (p : Profile) (file colours : List ℕ) (n e : ℕ) (ok : Plottable p file colours n e) where
   states_are : state_lines 0 (take n colours) ≡ state_lines 0 (colours_in p file)
-  states_are = ap (state_lines 0) (colours_taken p file ok.usable colours n ok.states ok.coloured)
+  states_are = ap (state_lines 0) (colours_taken p file p.usable colours n ok.states ok.coloured)
 
   lines_are : (begin : ℕ) → begin ≡ edges_begin p n → edge_lines (edges_from p file begin e) ≡ edge_lines (edges_in p file)
   lines_are begin h = ap edge_lines (edges_are p file n e begin ok.states ok.edges h)
@@ -38,14 +38,13 @@ put_states-edges-requires c =
 
 pub edges_begin-requires : goal.edges_begin-requires
 edges_begin-requires c =
-    (c.requires.0.usable, (few c.args.p c.args.file.now c.requires.0).0)
+    (few c.args.p c.args.file.now c.requires.0).0
 
 pub put_edges-closing-requires : goal.put_edges-closing-requires
 put_edges-closing-requires c =
     let a = c.args in
     let states = states_are a.p a.file.now a.colours.now a.n a.e c.requires.0 in
     let lines = lines_are a.p a.file.now a.colours.now a.n a.e c.requires.0 c.edges_begin.result c.edges_begin.ensures.0 in (
-      c.requires.0.usable,
       c.edges_begin.ensures.1,
       (few a.p a.file.now c.requires.0).1,
       omega (

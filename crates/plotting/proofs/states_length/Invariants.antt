@@ -1,12 +1,7 @@
 -- `plotting::states_length` meets its contract. The invariant: the length is that of the first states' statements. Assumes nothing.
-use mathlib.Core.Path.{◌≡◌}
-use Prim.Native.Nat.{◌*◌, ◌-◌, ◌≤◌}
-use lib.ListN.{length, take}
+use Rattle.std.proofs.Common.{◌≡◌, ◌*◌, ◌≤◌, length, take}
 use Rattle.drawing.specs.Profile.{state_lines}
 use Rattle.plotting.proofs.states_length.Given as goal
 
 abbrev pub invariant-loop-i : goal.invariant-loop-i
-invariant-loop-i l = (l.i ≤ l.n) × (l.length ≡ length (state_lines 0 (take l.i l.colours))) × (l.length ≤ 17 * l.i)
-
-abbrev pub decreases-loop-i : goal.decreases-loop-i
-decreases-loop-i l = l.n - l.i
+invariant-loop-i l = (l.length ≡ length (state_lines 0 (take l.i l.colours))) × (l.length ≤ 17 * l.i)

@@ -1,5 +1,5 @@
 use native.Mathlib.Omega.{arith}
-use Rattle.table.specs.Table.{table, look}
+use Rattle.table.specs.Table.{look}
 use Rattle.reach.proofs.Laws.{queue_none, walk_first, next_state, walk_more, walk_full, walk-all}
 use Rattle.reach.proofs.walk.Goals as goal
 
@@ -11,24 +11,17 @@ meet-met-requires c =
 pub loop-i-init : goal.loop-i-init
 loop-i-init c =
     let a = c.args in
-    rw (← walk_first (look (table a.targets.now a.labels.now)) 64 a.start a.codes.now) c.meet-met.ensures
+    rw (← walk_first (look a.rows.now) 64 a.start a.codes.now) c.meet-met.ensures
 
 pub visit-met-requires : goal.visit-met-requires
 visit-met-requires c =
     let pre = c.requires in
     let low = next_state _ _ _ _ _ pre _ _ _ _ c.loop-i.invariant c.loop-i-test.true in
-    let same = c.wide.ensures in (
-      c.loop-i.invariant.queue,
-      record {
-        targets_long = omega (arith, low, same, pre.rows.targets_long);
-        labels_long = omega (arith, low, same, pre.rows.labels_long);
-      },
-    )
+    (c.loop-i.invariant.queue, record { long = omega (arith, low, pre.rows.long) })
 
 pub loop-i-preserved : goal.loop-i-preserved
 loop-i-preserved c =
-    let pre = c.requires in
-    walk_more _ _ _ _ _ pre c.loop-i.invariant c.loop-i-test.true c.wide.ensures c.visit-met.ensures
+    walk_more _ _ _ _ _ c.requires c.loop-i.invariant c.loop-i-test.true c.from.ensures c.visit-met.ensures
 
 pub returns-then-met-n : goal.returns-then-met-n
 returns-then-met-n c =

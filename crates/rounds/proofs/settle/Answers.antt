@@ -23,8 +23,8 @@ loop-c-init c =
     let pre = c.requires in
     (running_begins _ _ _ _ pre.0 pre.1 _ (c.initial-p.ensures _ pre.0.few pre.1.rises), c.follow.ensures)
 
-pub first_parted-c-requires : goal.first_parted-c-requires
-first_parted-c-requires c =
+pub first_parted-requires : goal.first_parted-requires
+first_parted-requires c =
     let pre = c.requires in
     let run = c.loop-c.invariant.0 in (
       running_searched _ _ _ _ pre.0 pre.1 _ run _ c.loop-c.invariant.1,
@@ -35,17 +35,18 @@ first_parted-c-requires c =
 pub split-p-requires : goal.split-p-requires
 split-p-requires c =
     let pre = c.requires in
-    let run = c.loop-c.invariant.0 in (
+    let run = c.loop-c.invariant.0 in
+    let there = c.in-Some.ensures in (
       running_searched _ _ _ _ pre.0 pre.1 _ run _ c.loop-c.invariant.1,
-      running_heads _ _ _ _ pre.0 pre.1 _ run _ c.first_parted-c.ensures c.if-n-c.false,
+      running_heads _ _ _ _ pre.0 pre.1 _ run _ (sym there.0) there.1,
       omega (arith, running_low _ _ _ _ pre.0 pre.1 _ run, pre.0.few),
     )
 
 pub relink-requires : goal.relink-requires
 relink-requires c =
     let pre = c.requires in
-    running_relinkable _ _ _ _ pre.0 pre.1 _ c.loop-c.invariant.0 _ _ c.first_parted-c.ensures
-    c.if-n-c.false c.split-p.ensures _ c.loop-c.invariant.1
+    let there = c.in-Some.ensures in
+    running_relinkable _ _ _ _ pre.0 pre.1 _ c.loop-c.invariant.0 _ _ (sym there.0) there.1 c.split-p.ensures _ c.loop-c.invariant.1
 
 pub loop-c-smaller : goal.loop-c-smaller
 loop-c-smaller c =
@@ -55,18 +56,15 @@ loop-c-smaller c =
 pub loop-c-preserved : goal.loop-c-preserved
 loop-c-preserved c =
     let pre = c.requires in
-    let run = c.loop-c.invariant.0 in
-    let chosen = c.first_parted-c.ensures in (
-      running_on _ _ _ _ pre.0 pre.1 _ run _ _ chosen c.if-n-c.false c.split-p.ensures,
-      c.relink.ensures,
-    )
+    let there = c.in-Some.ensures in
+    (running_on _ _ _ _ pre.0 pre.1 _ c.loop-c.invariant.0 _ _ (sym there.0) there.1 c.split-p.ensures, c.relink.ensures)
 
 pub returns : goal.returns
 returns c =
     let pre = c.requires in
     let run = c.loop-c.invariant.0 in
     let begun = c.initial-p.ensures _ pre.0.few pre.1.rises in
-    let end = running_ends _ _ _ _ pre.0 pre.1 _ run _ c.first_parted-c.ensures c.if-n-c.true in
+    let end = running_ends _ _ _ _ pre.0 pre.1 _ run c.in_default.ensures in
     record {
       colours = c.count-distinct.ensures.0 ∙ classes-begin _ _ _ _ pre.0 pre.1 _ begun;
       long = run.long;

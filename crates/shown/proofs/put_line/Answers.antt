@@ -11,6 +11,6 @@ use Rattle.shown.proofs.put_line.Goals as goal
 pub returns : goal.returns
 returns c =
     let a = c.args in
-    let short : length (decimal a.n) ≤ 3 = decimal_most 2 a.n (omega (arith, c.wide_byte.ensures.0, c.wide_byte.ensures.1)) in
-    let done = same a.room.now a.at (ap ended c.wide_byte.ensures.0) c.put_number.ensures.0 c.put_number.ensures.1 in
+    let short : length (decimal a.n) ≤ 3 = decimal_most 2 a.n (omega (arith, c.ranges.n)) in
+    let done = same a.room.now a.at (ap ended c.from.ensures) c.put_number.ensures.0 c.put_number.ensures.1 in
     (done.0, done.1, omega (arith, done.1, length-append (decimal a.n) newline))

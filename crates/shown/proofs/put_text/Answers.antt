@@ -5,6 +5,8 @@ use Prim.Native.Nat.{ℕ, ◌≤◌}
 use native.Mathlib.Omega.{arith}
 use lib.ListN.{length, take}
 use lib.Seq.{length-take-le}
+use Rattle.std.specs.Prelude.{Result}
+use Rattle.refusals.specs.declared.Refusal.{Refusal}
 use Rattle.layout.specs.Layout.{large}
 use Rattle.text.specs.Decimal.{wrote}
 use Rattle.tracing.specs.declared.Traced.{Traced}
@@ -14,7 +16,7 @@ use Rattle.shown.proofs.Laws.{text_is, few}
 use Rattle.shown.proofs.put_text.Goals as goal
 
 -- how many colours were shown: no more than the room has
-short : (s ys room room' : List ℕ) (r : Traced) (k : ℕ) → length room ≡ 65536 → length room' ≡ length room → TracePromise large s ys room r room' → k ≡ shown_for r (length ys)
+short : (s ys room room' : List ℕ) (r : Result Traced Refusal) (k : ℕ) → length room ≡ 65536 → length room' ≡ length room → TracePromise large s ys room r room' → k ≡ shown_for r (length ys)
     → (k ≤ 65536) × (k ≤ length room') × (length (take k room') ≡ k)
 short s ys room room' r k long same kept e =
     let h : shown_for r (length ys) ≤ 65536 = few s ys room room' long r kept in

@@ -4,9 +4,9 @@ use Rattle.spelling.specs.Spelling.{digit_at}
 use Rattle.spelling.proofs.Digits.{past_end}
 use Rattle.spelling.proofs.digit_at.Goals as goal
 
-pub returns-then-text-at : goal.returns-then-text-at
-returns-then-text-at c = (past_end _ _ c.if-text-at.true, omega arith)
+pub returns-in_default : goal.returns-in_default
+returns-in_default c = (past_end _ _ c.in_default.ensures.lookup.3, omega arith)
 
 pub returns : goal.returns
 unfolding digit_at
-returns c = c.digit.ensures
+returns c = (rw (← c.in-Some.ensures.lookup.3.1 0) c.digit.ensures.0, c.digit.ensures.1)

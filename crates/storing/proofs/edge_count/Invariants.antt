@@ -1,14 +1,11 @@
 -- `storing::edge_count` meets its contract. Assumes nothing.
 use mathlib.Core.Path.{◌≡◌}
-use Prim.Native.Nat.{◌*◌, ◌-◌, ◌≤◌}
-use lib.ListN.{length}
+use Prim.Native.Nat.{◌*◌, ◌≤◌}
 use Rattle.meaning.specs.Search.{at}
 use Rattle.meaning.specs.Listing as Listing
 use Rattle.sets.specs.Sets.{holds}
+use Rattle.table.specs.Table.{row}
 use Rattle.storing.proofs.edge_count.Given as goal
 
-abbrev pub invariant-loop-k : goal.invariant-loop-k
-invariant-loop-k l = (l.k ≤ length l.order) × (l.e ≤ 64 * l.k) × (l.e ≡ Listing.cells (λ i y. holds (at l.labels (at l.order i)) y) l.k 64)
-
-abbrev pub decreases-loop-k : goal.decreases-loop-k
-decreases-loop-k l = length l.order - l.k
+abbrev pub invariant-loop-state : goal.invariant-loop-state
+invariant-loop-state l = (l.e ≤ 64 * l.state-index) × (l.e ≡ Listing.cells (λ i y. holds (row l.rows (at l.order i)).labels y) l.state-index 64)

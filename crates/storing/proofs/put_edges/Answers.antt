@@ -8,7 +8,6 @@ use Rattle.pen.proofs.Parts.{puts_drop}
 use Rattle.bits.proofs.Parts.{lent_tail, back_tail}
 use Rattle.meaning.specs.Filter.{Edge}
 use Rattle.layout.specs.Layout.{edge_widths, flat, put_edges}
-use Rattle.table.specs.Table.{table}
 use Rattle.storing.specs.Stored.{edges_of}
 use Rattle.storing.proofs.put_edges.Goals as goal
 
@@ -17,7 +16,7 @@ returns c =
     let a = c.args in
     let room = a.room.now in
     let from = a.bit / 8 in
-    let es : List Edge = edges_of (table a.targets.now a.labels.now) a.order.now a.list.now 64 in
+    let es : List Edge = edges_of a.rows.now a.order.now a.list.now 64 in
     let at : from * 8 + a.bit % 8 ≡ a.bit = omega arith in
     back_tail room c.put_rows.new.part from
     ∙ rw (c.put_rows.ensures, lent_tail room from)

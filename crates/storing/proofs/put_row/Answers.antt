@@ -1,52 +1,34 @@
-use mathlib.Core.Path.{◌≡◌, sym, ap, ◌∙◌, subst}
-use mathlib.Core.Bool.{false}
-use mathlib.Core.Option.{none, some}
-use Prim.Native.Nat.{ℕ, ◌+◌}
+use mathlib.Core.Path.{◌≡◌, sym, ap, ◌∙◌}
+use mathlib.Core.Option.{some}
+use Prim.Native.Nat.{ℕ, ◌<◌}
 use native.Mathlib.Omega.{arith}
-use Rattle.pen.proofs.Pens.{drawn_none, drawn-length}
+use lib.ListN.{length}
+use Rattle.std.proofs.lemmas.List.{get_or_default}
 use Rattle.meaning.specs.Search.{at}
-use Rattle.sets.specs.Sets.{holds}
 use Rattle.sets.proofs.Laws.{from-holds}
-use Rattle.table.specs.Table.{table, look, Rows}
-use Rattle.table.proofs.Laws.{look_some, look_none}
-use Rattle.storing.specs.Stored.{led, row_edge}
-use Rattle.storing.proofs.Laws.{led_none, led_some, row-begun, row_near, row_more, row-ended}
+use Rattle.table.specs.declared.Row.{Row}
+use Rattle.table.specs.Table.{row, blank, look}
+use Rattle.table.proofs.Laws.{look_some}
+use Rattle.storing.proofs.Laws.{led_some, row_without, row-begun, row_near, row_more, row-ended}
 use Rattle.storing.proofs.put_row.Goals as goal
-use Rattle.storing.proofs.put_row.Goals.{After-target-to, After-wide-s}
-
--- the row is one of the table's
-row-there : (c : After-wide-s) → Rows ((table c.args.targets.now c.args.labels.now)) (c.wide-s.result + 1)
-row-there c =
-    subst (λ (s : ℕ). Rows ((table c.args.targets.now c.args.labels.now)) (s + 1)) (sym c.wide-s.ensures) (c.requires.rows.rows c.args.k c.requires.state)
-
--- a label that is not in the row's set has no edge
-only : (c : After-wide-s) (j : ℕ) →
-    let a = c.args in
-    holds (at a.labels.now c.wide-s.result) j ≡ false → row_edge ((table c.args.targets.now c.args.labels.now)) a.order.now a.list.now a.k j ≡ none
-only c j q =
-    let list = c.args.list.now in
-    ap (led list) (subst (λ (s : ℕ). look ((table c.args.targets.now c.args.labels.now)) s j ≡ none) c.wide-s.ensures (look_none ((table c.args.targets.now c.args.labels.now)) _ j q)) ∙ led_none list
+use Rattle.storing.proofs.put_row.Goals.{After-target-to}
 
 -- a label of the rest has an edge
-found : (c : After-target-to) →
-    look ((table c.args.targets.now c.args.labels.now)) (at c.args.order.now c.args.k) c.lowest-y.result ≡ some c.target-to.result
+found : (c : After-target-to) → look c.args.rows.now (at c.args.order.now c.args.k) c.in-Some.y ≡ some c.target-to.result
 found c =
-    let y = c.lowest-y.result in
-    let low = c.lowest-y.ensures in
-    rw (← c.wide-s.ensures)
-    (look_some ((table c.args.targets.now c.args.labels.now)) _ y low.0 (from-holds c.loop-rest.invariant.from y low.1.there) ∙ ap some (sym c.target-to.ensures.0))
+    let y = c.in-Some.y in
+    let step = c.in-Some.ensures.steps in
+    let targets : ℕ → ℕ = λ s. at (row c.args.rows.now s).targets y in
+    look_some _ _ y step.0 (from-holds c.loop-y.invariant.from y step.1.there) ∙ ap some (ap targets (sym c.from-s.ensures) ∙ sym c.target-to.ensures.0)
 
-pub offset_bounds-labels-s : goal.offset_bounds-labels-s
-offset_bounds-labels-s c = let there = row-there c in omega arith
-
-pub bounds-labels-s : goal.bounds-labels-s
-bounds-labels-s c = omega (arith, (row-there (goal.at.bounds-labels-s c).After-wide-s).labels_long)
-
-pub loop-rest-init : goal.loop-rest-init
-loop-rest-init c = row-begun _ _ _ _ _ _ c.requires.ready
-
-pub target-to-requires : goal.target-to-requires
-target-to-requires c = (c.lowest-y.ensures.0, omega (arith, (row-there (goal.at.target-to-requires c).After-wide-s).targets_long))
+pub loop-y-init : goal.loop-y-init
+loop-y-init c =
+    let rows = c.args.rows.now in
+    let there : c.from-s.result < length rows = omega (arith, c.from-s.ensures, (c.requires.rows.rows c.args.k c.requires.state).long) in
+    let labels : Row → ℕ = λ r. r.labels in
+    let all : c.into_iter-y-iterator.result.rest ≡ (row rows (at c.args.order.now c.args.k)).labels =
+    cc (ap labels (get_or_default rows c.from-s.result _ blank there), ap (λ (s : ℕ). (row rows s).labels) c.from-s.ensures) in
+    rw all (row-begun _ _ _ _ _ _ c.requires.ready)
 
 pub bounds-list-to : goal.bounds-list-to
 bounds-list-to c =
@@ -55,34 +37,26 @@ bounds-list-to c =
 
 pub push-pen-requires : goal.push-pen-requires
 push-pen-requires c =
-    let loop = c.loop-rest in
+    let loop = c.loop-y in
     let pre = c.requires in
     let can = pre.rows in
+    let edge = found (goal.at.push-pen-requires c).After-target-to in
     record {
-      usable = can.usable;
       ready = loop.invariant.edges.ready;
-      near = omega (arith, row_near loop.invariant can.usable, pre.near);
+      near = omega (arith, row_near loop.invariant, pre.near);
       source = omega (arith, pre.state, can.states);
-      label = can.label _ _ _ pre.state (found (goal.at.push-pen-requires c).After-target-to);
-      target = rw c.wide.ensures (can.target _ _ _ pre.state (found (goal.at.push-pen-requires c).After-target-to));
+      label = can.label _ _ _ pre.state edge;
+      target = rw c.from.ensures (can.target _ _ _ pre.state edge);
     }
 
-pub loop-rest-preserved : goal.loop-rest-preserved
-loop-rest-preserved c =
-    let loop = c.loop-rest in
-    let low = c.lowest-y.ensures in
-    let edge = led_some c.args.list.now _ _ (found (goal.at.loop-rest-preserved c).After-target-to) ∙ ap some (sym c.wide.ensures) in
-    row_more loop.invariant (only (goal.at.loop-rest-preserved c).After-wide-s) _ _ low.0 low.1 edge c.push-pen.ensures (λ j. c.without_lowest-rest.ensures.1 _ j low.1)
-
-pub shape_of-part : goal.shape_of-part
-shape_of-part c =
-    drawn-length c.loop-rest.invariant.edges ∙ sym (drawn-length (drawn_none c.args.part.now c.args.begun c.requires.ready))
+pub loop-y-preserved : goal.loop-y-preserved
+loop-y-preserved c =
+    let a = c.args in
+    let step = c.in-Some.ensures.steps in
+    let edge = led_some a.list.now _ _ (found (goal.at.loop-y-preserved c).After-target-to) ∙ ap some (sym c.from.ensures) in
+    row_more c.loop-y.invariant (row_without a.rows.now a.order.now a.list.now a.k) _ _ step.0 step.1 edge c.push-pen.ensures step.2
 
 pub returns : goal.returns
 returns c =
-    let loop = c.loop-rest in
-    let none_left : loop.rest ≡ 0 = omega (arith, c.loop-rest-test.false) in
-    row-ended loop.invariant (only (goal.at.returns c).After-wide-s) none_left
-
-pub loop-rest-smaller : goal.loop-rest-smaller
-loop-rest-smaller c = c.without_lowest-rest.ensures.0
+    let a = c.args in
+    row-ended c.loop-y.invariant (row_without a.rows.now a.order.now a.list.now a.k) c.in-None.ensures.steps.0

@@ -14,12 +14,12 @@ use Rattle.meaning.specs.Search.{at}
 use Rattle.meaning.proofs.Traced.{opt}
 use Rattle.meaning.specs.Listing.{cells}
 use Rattle.sets.specs.Sets.{holds}
-use Rattle.layout.specs.declared.Profile.{Profile}
+use Rattle.layout.specs.declared.profile.Profile.{Profile}
 use Rattle.layout.specs.Layout.{header_widths, header_values, header_bits, edges_begin, file_bits, bytes_for, file_length, fill_bits, length_of, put_edges}
 use Rattle.layout.proofs.Bounds.{colours_high}
 use Rattle.files.specs.Tests.{Written, write_written}
 use Rattle.files.specs.Written.{header_fit, colours_fit, states≤256, written-laid}
-use Rattle.table.specs.Table.{Table, table, look}
+use Rattle.table.specs.Table.{Table, row, look}
 use Rattle.storing.specs.Stored.{led, edges_of, stored, Fileable}
 use Rattle.storing.proofs.Laws.{led_none, listed-counted, listed-short}
 use Rattle.storing.proofs.write.Goals as goal
@@ -33,7 +33,7 @@ module _ {p : Profile} {T : Table} {order list colours : List ℕ} {m start room
   count = sym h.coloured
 
   count≤256 : length order ≤ 256
-  count≤256 = rw (← count) (states≤256 p h.rows.usable (stored T order list colours m start) passed.writable)
+  count≤256 = rw (← count) (states≤256 p p.usable (stored T order list colours m start) passed.writable)
 
   -- the edges at all labels are those at the labels below m
   short : edges_of T order list 64 ≡ edges_of T order list m
@@ -43,7 +43,7 @@ module _ {p : Profile} {T : Table} {order list colours : List ℕ} {m start room
       (λ t e. absurd (omega (arith, h.rows.label k y t i e)))
 
   -- the edges are as many as were counted
-  counted : (e : ℕ) → e ≡ cells (λ k y. holds (at T.labels (at order k)) y) (length order) 64 → e ≡ length (edges_of T order list m)
+  counted : (e : ℕ) → e ≡ cells (λ k y. holds (row T (at order k)).labels y) (length order) 64 → e ≡ length (edges_of T order list m)
   counted e is = is ∙ listed-counted T order list _ ∙ ap length short
 
 -- header, colours, edges and filling of n states with e edges
@@ -53,18 +53,13 @@ all p T order list colours m start room n e =
     let coloured = put_fields header (header_bits p) (replicate n p.colour) colours in
     put_field (put_edges p coloured (edges_begin p n) (edges_of T order list m)) (file_bits p n e) (fill_bits p n e) 0
 
-pub edge_count-e-requires : goal.edge_count-e-requires
-edge_count-e-requires c =
-    (count≤256 c.requires, λ k h. omega (arith, (c.requires.rows.rows k h).labels_long))
-
 pub put-requires : goal.put-requires
 put-requires c =
     let a = c.args in
     let w = (passed c.requires).writable in
-    let ok = c.requires.rows.usable in
-    let F = stored (table a.targets.now a.labels.now) a.order.now a.list.now a.colours.now a.m a.start in
+    let ok = a.p.usable in
+    let F = stored a.rows.now a.order.now a.list.now a.colours.now a.m a.start in
     record {
-      usable = ok;
       fit = rw (count c.requires, ← counted c.requires _ c.edge_count-e.ensures.1) at (header_fit a.p ok F w);
       states = rw (count c.requires) at w.states_low;
       labels = w.labels_low;
@@ -74,17 +69,14 @@ pub put_run-requires : goal.put_run-requires
 put_run-requires c =
     let a = c.args in
     let p = a.p in
-    let ok = c.requires.rows.usable in
+    let ok = p.usable in
     let n = length a.colours.now in
     let high = colours_high p ok n (omega (arith, count c.requires, count≤256 c.requires)) in
     record {
       narrow = ok.colour≤;
       near = omega (arith, c.header_bits.ensures.1, mul_comm n p.colour, high);
-      small = colours_fit p ok (stored (table a.targets.now a.labels.now) a.order.now a.list.now a.colours.now a.m a.start) (passed c.requires).writable;
+      small = colours_fit p ok (stored a.rows.now a.order.now a.list.now a.colours.now a.m a.start) (passed c.requires).writable;
     }
-
-pub edges_begin-requires : goal.edges_begin-requires
-edges_begin-requires c = (c.requires.rows.usable, count≤256 c.requires)
 
 pub put_edges-requires : goal.put_edges-requires
 unfolding length_of file_length bytes_for file_bits
@@ -93,7 +85,6 @@ put_edges-requires c =
     let same : length c.put_run.new.s ≡ length c.args.room.now = c.put_run.auto.s ∙ c.put.auto.room in
     record {
       storable = record {
-        usable = can.usable;
         states = can.states;
         rows = can.rows;
         label = λ k y t h e. omega (arith, can.label k y t h e, (passed c.requires).writable.labels_high);
@@ -103,20 +94,13 @@ put_edges-requires c =
       bit_in_bounds = omega (arith, same, c.edges_begin.ensures.0, rw (count c.requires) at (passed c.requires).roomy);
     }
 
--- states and edges are few enough for the code's sums
-pub fill-requires : goal.fill-requires
-fill-requires c = (c.requires.rows.usable, count≤256 c.requires, omega (arith, c.edge_count-e.ensures.0))
-
-pub file_bits-requires : goal.file_bits-requires
-file_bits-requires c = (c.requires.rows.usable, count≤256 c.requires, omega (arith, c.edge_count-e.ensures.0))
-
 pub returns : goal.returns
 unfolding length_of file_length
 returns c =
     let a = c.args in
     let p = a.p in
     let room = a.room.now in
-    let T = table a.targets.now a.labels.now in
+    let T = a.rows.now in
     let F = stored T a.order.now a.list.now a.colours.now a.m a.start in
     let n = length a.order.now in
     let e = c.edge_count-e.result in
@@ -137,6 +121,6 @@ returns c =
     record {
       bytes = written
           ∙ ap₂ (all p T a.order.now a.list.now a.colours.now a.m a.start room) (sym (count c.requires)) is
-          ∙ written-laid p c.requires.rows.usable F (passed c.requires).writable room bytes (passed c.requires).roomy;
+          ∙ written-laid p p.usable F (passed c.requires).writable room bytes (passed c.requires).roomy;
       length = c.bytes_for.ensures ∙ ap bytes_for (c.file_bits.ensures.0 ∙ ap₂ (file_bits p) (sym (count c.requires)) is);
     }

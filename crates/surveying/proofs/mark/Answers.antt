@@ -6,11 +6,11 @@ pub returns-in_default : goal.returns-in_default
 returns-in_default c = rw c.in_default.is (mark_none _ _ _)
 
 pub returns-then-colour-shut : goal.returns-then-colour-shut
-returns-then-colour-shut c = rw c.in-Is.is (mark_other _ _ _ _ c.if-colour-shut.true)
+returns-then-colour-shut c = rw c.in-Some.is (mark_other _ _ _ _ c.if-colour-shut.true)
 
 pub returns-then-state-ge256 : goal.returns-then-state-ge256
-returns-then-state-ge256 c = rw c.in-Is.is (mark_high _ _ _ _ c.if-state-ge256.true)
+returns-then-state-ge256 c = rw c.in-Some.is (mark_high _ _ _ _ c.if-state-ge256.true)
 
 pub returns : goal.returns
 returns c =
-    rw c.in-Is.is (mark_more _ _ _ _ _ c.if-colour-shut.false c.if-state-ge256.false c.with.ensures)
+    rw c.in-Some.is (mark_more _ _ _ _ _ c.if-colour-shut.false c.if-state-ge256.false c.with.ensures)

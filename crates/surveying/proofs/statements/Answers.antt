@@ -1,10 +1,10 @@
-use mathlib.Core.Path.{sym, ◌∙◌}
-use Prim.Native.Nat.{◌^◌, ◌<◌}
-use native.Mathlib.Omega.{arith}
-use lib.ListN.{length}
+use Rattle.std.proofs.Common.{◌≡◌, ◌^◌, ◌<◌, Ok, length, sym, ap, ◌∙◌, arith}
+use Rattle.std.proofs.lemmas.Result.{err_from_is_err_and}
+use Rattle.drawing.specs.declared.Statement.TheVariants as statement
+use Rattle.drawing.specs.Reader.{statement_at}
 use Rattle.surveying.proofs.Steps.{countable, state_on, edge_on, step_state, step_edge, closed_is, outside_is, first_of-all}
 use Rattle.surveying.proofs.statements.Goals as goal
-use Rattle.surveying.proofs.statements.Goals.{At-loop-colour}
+use Rattle.surveying.proofs.statements.Goals.{At-loop-colour, In-State, In-Edge}
 
 pub loop-colour-init : goal.loop-colour-init
 loop-colour-init c = rw (c.begin-s.ensures, c.begin-testing.ensures) (first_of-all _ _ c.requires)
@@ -12,55 +12,56 @@ loop-colour-init c = rw (c.begin-s.ensures, c.begin-testing.ensures) (first_of-a
 short : (c : At-loop-colour) → length c.args.text.now < 2 ^ 63
 short c = omega arith
 
-pub mark-requires : goal.mark-requires
-mark-requires c = c.loop-colour.invariant.marked.long
+-- what was read
+state_read : (c : In-State) → let loop = c.loop-colour in
+    statement_at c.args.text.now loop.at loop.s.next ≡ Ok (statement.State c.in-State.colour c.in-State.end)
+state_read c = sym (c.in_ok-colour.ensures) ∙ ap Ok c.in-State.is
+
+edge_read : (c : In-Edge) → let loop = c.loop-colour in
+    statement_at c.args.text.now loop.at loop.s.next ≡ Ok (statement.Edge c.in-Edge.edge c.in-Edge.end)
+edge_read c = sym (c.in_ok-colour.ensures) ∙ ap Ok c.in-Edge.is
 
 pub with_state-s-requires : goal.with_state-s-requires
 with_state-s-requires c =
     let loop = c.loop-colour in
-    countable _ _ _ loop.s _ loop.testing loop.invariant (short (goal.at.with_state-s-requires c).At-loop-colour) _ (state_on _ _ _ loop.s _ loop.testing loop.invariant _ _ (sym c.statement_at-statement.ensures ∙ c.in-State.is)).2
+    let at = goal.at.with_state-s-requires c in
+    countable _ _ _ loop.s _ loop.testing loop.invariant (short at.At-loop-colour) _ (state_on _ _ _ loop.s _ loop.testing loop.invariant _ _ (state_read at.In-State)).2
 
 pub loop-colour-smaller-in-State : goal.loop-colour-smaller-in-State
 loop-colour-smaller-in-State c =
     let loop = c.loop-colour in
-    let on = state_on _ _ _ loop.s _ loop.testing loop.invariant _ _ (sym c.statement_at-statement.ensures ∙ c.in-State.is) in
+    let on = state_on _ _ _ loop.s _ loop.testing loop.invariant _ _ (state_read (goal.at.loop-colour-smaller-in-State c).In-State) in
     omega (arith, on.0, on.1)
 
 pub loop-colour-preserved-in-State : goal.loop-colour-preserved-in-State
 loop-colour-preserved-in-State c =
     let loop = c.loop-colour in
-    rw c.with_state-s.ensures (step_state _ _ _ loop.s _ loop.testing loop.invariant _ _ _ (sym c.statement_at-statement.ensures ∙ c.in-State.is) c.mark.ensures)
-
-pub with_edge-testing-requires : goal.with_edge-testing-requires
-with_edge-testing-requires c =
-    let loop = c.loop-colour in
-    (loop.invariant.marked.long, (countable _ _ _ loop.s _ loop.testing loop.invariant (short (goal.at.with_edge-testing-requires c).At-loop-colour) 0 (omega arith)).edges)
+    rw c.with_state-s.ensures (step_state _ _ _ loop.s _ loop.testing loop.invariant _ _ _ (state_read (goal.at.loop-colour-preserved-in-State c).In-State) c.mark.ensures)
 
 pub with_edge-s-requires : goal.with_edge-s-requires
 with_edge-s-requires c =
     let loop = c.loop-colour in
-    countable _ _ _ loop.s _ loop.testing loop.invariant (short (goal.at.with_edge-s-requires c).At-loop-colour) _ (edge_on _ _ _ loop.s _ loop.testing loop.invariant _ _ (sym c.statement_at-statement.ensures ∙ c.in-Edge.is)).2
+    let at = goal.at.with_edge-s-requires c in
+    countable _ _ _ loop.s _ loop.testing loop.invariant (short at.At-loop-colour) _ (edge_on _ _ _ loop.s _ loop.testing loop.invariant _ _ (edge_read at.In-Edge)).2
 
 pub loop-colour-smaller : goal.loop-colour-smaller
 loop-colour-smaller c =
     let loop = c.loop-colour in
-    let on = edge_on _ _ _ loop.s _ loop.testing loop.invariant _ _ (sym c.statement_at-statement.ensures ∙ c.in-Edge.is) in
+    let on = edge_on _ _ _ loop.s _ loop.testing loop.invariant _ _ (edge_read (goal.at.loop-colour-smaller c).In-Edge) in
     omega (arith, on.0, on.1)
 
 pub loop-colour-preserved : goal.loop-colour-preserved
 loop-colour-preserved c =
     let loop = c.loop-colour in
-    rw c.with_edge-s.ensures (step_edge _ _ _ loop.s _ loop.testing loop.invariant _ _ _ (sym c.statement_at-statement.ensures ∙ c.in-Edge.is) c.with_edge-testing.ensures)
+    rw c.with_edge-s.ensures (step_edge _ _ _ loop.s _ loop.testing loop.invariant _ _ _ (edge_read (goal.at.loop-colour-preserved c).In-Edge) c.with_edge-testing.ensures)
 
 pub returns-in-Closing : goal.returns-in-Closing
 returns-in-Closing c =
     let loop = c.loop-colour in
-    c.closed.ensures ∙ closed_is _ _ _ loop.s _ loop.testing loop.invariant _ (sym c.statement_at-statement.ensures ∙ c.in-Closing.is)
+    c.closed.ensures ∙ closed_is _ _ _ loop.s _ loop.testing loop.invariant _ (sym (c.in_ok-colour.ensures) ∙ ap Ok c.in-Closing.is)
 
-pub returns-in-Outside : goal.returns-in-Outside
-returns-in-Outside c =
+pub returns-in_err-colour : goal.returns-in_err-colour
+returns-in_err-colour c =
     let loop = c.loop-colour in
-    sym (outside_is _ _ _ loop.s _ loop.testing loop.invariant _ (sym c.statement_at-statement.ensures ∙ c.in-Outside.is))
-
-pub statement_at-statement-requires : goal.statement_at-statement-requires
-statement_at-statement-requires c = c.loop-colour.invariant.inside
+    let p = err_from_is_err_and c.from_residual.result c.from_residual.ensures.1 in
+    rw (p.1, p.2) (sym (outside_is _ _ _ loop.s _ loop.testing loop.invariant _ (sym c.in_err-colour.ensures)))

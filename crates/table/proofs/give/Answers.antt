@@ -1,28 +1,33 @@
-use native.Mathlib.Omega.{arith}
-use mathlib.Core.Path.{◌≡◌}
-use lib.ListN.{length-set}
-use Rattle.table.specs.Table.{table}
+use Rattle.std.proofs.Common.{◌≡◌, ◌∙◌, ◌<◌, ℕ, length, refl, ap, arith, rules}
+use Rattle.std.proofs.Math.ListN.{length-set}
+use Rattle.std.proofs.lemmas.List.{get_or_default}
+use Rattle.sets.specs.Sets.{holds}
+use Rattle.table.specs.Table.{blank}
 use Rattle.table.proofs.Laws.{giving_begun, giving_more, look_gave}
 use Rattle.table.proofs.give.Goals as goal
 
-pub loop-rest-init : goal.loop-rest-init
-loop-rest-init c = giving_begun _ _ _ _ _ _ c.less-rest.ensures
+pub loop-y-init : goal.loop-y-init
+loop-y-init c =
+    let all : c.into_iter-y-iterator.result.rest ≡ c.less.result = cc in
+    record { giving = giving_begun _ _ _ (λ j. ap (λ (x : ℕ). holds x j) all ∙ c.less.ensures j); labels = refl }
 
-pub loop-rest-preserved : goal.loop-rest-preserved
-loop-rest-preserved c =
-    let loop = c.loop-rest in
-    let lowest = c.lowest-y.ensures in
-    let a = c.args in
-    giving_more a.targets.now a.from a.to _ _ loop.targets loop.rest c.without_lowest-rest.result c.lowest-y.result loop.invariant c.requires.fact
-    (omega (arith, c.requires.rows.1.targets_long)) lowest.0 lowest.1.there (λ j. c.without_lowest-rest.ensures.1 _ j lowest.1)
+pub loop-y-preserved : goal.loop-y-preserved
+loop-y-preserved c =
+    let step = c.in-Some.ensures.steps in
+    record {
+      giving = giving_more _ _ c.loop-y.own.targets c.loop-y.y-iterator.rest c.next.new.self.rest c.in-Some.y c.loop-y.invariant.giving
+          (search rules) step.0 step.1.there step.2;
+      labels = c.loop-y.invariant.labels;
+    }
 
 pub returns : goal.returns
 returns c =
-    let loop = c.loop-rest in
     let a = c.args in
-    let none_left : loop.rest ≡ 0 = omega (arith, c.loop-rest-test.false) in
+    let inside : a.to < length a.rows.now = omega (arith, c.requires.rows.1.long) in
+    let whence : a.from < length a.rows.now = omega (arith, c.requires.rows.0.long) in
+    let both = λ (j : ℕ). rw c.loop-y.invariant.labels at (c.joined-own.ensures j) in
     record {
-      edges = look_gave (table a.targets.now a.labels.now) a.from a.to _ c.requires.fact c.requires.rows.1 c.joined.ensures loop.targets
-          (rw none_left at loop.invariant);
-      rows = record { targets_same = loop.invariant.same_length; labels_same = simp length-set };
+      edges = look_gave a.rows.now a.from a.to c.joined-own.result _ _ (get_or_default a.rows.now a.to _ blank inside)
+          (get_or_default a.rows.now a.from _ blank whence) inside both c.loop-y.own.targets (rw c.in-None.ensures.steps.0 at c.loop-y.invariant.giving);
+      rows = simp length-set;
     }

@@ -2,23 +2,20 @@
 -- Assumes nothing.
 use mathlib.Core.Path.{◌≡◌}
 use mathlib.Core.List.{List, ◌++◌}
-use Prim.Native.Nat.{ℕ, ◌+◌, ◌*◌, ◌-◌, ◌≤◌}
+use Prim.Native.Nat.{ℕ, ◌*◌}
 use lib.ListN.{length, drop}
-use Rattle.layout.specs.declared.Profile.{Profile}
-use Rattle.layout.specs.Layout.{edge_bits, flat}
+use Rattle.layout.specs.declared.profile.Profile.{Profile}
+use Rattle.layout.specs.declared.edge.Edges.{Edges}
+use Rattle.layout.specs.Along.{Along}
+use Rattle.layout.specs.Layout.{flat}
 use Rattle.layout.specs.Contents.{edges_from}
-use Rattle.edges.specs.declared.Cursor.{Cursor}
 use Rattle.unpacking.proofs.get_edges.Given as goal
 
-pub record Got (P : Profile) (file : List ℕ) (at e : ℕ) (found out : List ℕ) (c : Cursor) (o : ℕ) : Type 0 where
-  pub inside : c.index ≤ e
-  pub placed : c.place ≡ at + edge_bits P * c.index
-  pub behind : o ≡ 3 * c.index
+pub record Got (P : Profile) (file : List ℕ) (at e : ℕ) (found out : List ℕ) (walk : Edges) (o : ℕ) : Type 0 where
+  pub along : Along P file at e walk
+  pub behind : o ≡ 3 * walk.index
   pub long : length out ≡ length found
-  pub made : out ≡ flat (edges_from P file at c.index) ++ drop (3 * c.index) found
+  pub made : out ≡ flat (edges_from P file at walk.index) ++ drop (3 * walk.index) found
 
-abbrev pub invariant-loop-cursor : goal.invariant-loop-cursor
-invariant-loop-cursor l = Got l.p l.file l.at l.e l.initial.out l.out l.cursor l.o
-
-abbrev pub decreases-loop-cursor : goal.decreases-loop-cursor
-decreases-loop-cursor l = l.e - l.cursor.index
+abbrev pub invariant-loop-placed : goal.invariant-loop-placed
+invariant-loop-placed l = Got l.fn.p l.file l.at l.e l.initial.out l.out l.placed-iterator l.o

@@ -10,11 +10,9 @@ use Rattle.layout.specs.declared.Reading.{Reading}
 use Rattle.layout.specs.Layout.{flat}
 use Rattle.layout.specs.Contents.{colours_in, edges_in}
 use Rattle.layout.proofs.Bounds.{states_high, count_high, colours_high}
-use Rattle.layout.specs.declared.Profile.{Profile}
-use Rattle.layout.specs.Code.{Usable}
-use Rattle.checking.specs.declared.Checked.{Checked}
-use Rattle.checking.specs.declared.Checked.TheVariants as checked
-use Rattle.checking.specs.Promise.{CheckPromise}
+use Rattle.layout.specs.declared.profile.Profile.{Profile}
+use Rattle.checking.specs.Promise.{Checked, CheckPromise}
+use Rattle.std.specs.Prelude.{Ok}
 use Rattle.checking.proofs.Calls.{refused_is, read_is}
 use Rattle.unpacking.specs.Promise.{rooms}
 use Rattle.unpacking.proofs.Calls.{unpack_refused, short, unpack_filled, colours_laid, edges_laid}
@@ -26,12 +24,12 @@ record Few (r : Reading) : Type 0 where
   states≤ : r.states ≤ 256
   count≤ : r.edges ≤ 65536
 
-few : (P : Profile) (file : List ℕ) (a : Checked) → CheckPromise P file a → Usable P → (r : Reading) → a ≡ checked.Accepted r → Few r
-few P file a promise ok r accepted =
+few : (P : Profile) (file : List ℕ) (a : Checked) → CheckPromise P file a → (r : Reading) → a ≡ Ok r → Few r
+few P file a promise r accepted =
     let is = read_is P file a promise r accepted in
     record {
-      states≤ = omega (arith, is.states_are, states_high P ok file);
-      count≤ = omega (arith, is.count_is, count_high P ok file);
+      states≤ = omega (arith, is.states_are, states_high P P.usable file);
+      count≤ = omega (arith, is.count_is, count_high P P.usable file);
     }
 
 -- ---- the needs
@@ -39,60 +37,52 @@ few P file a promise ok r accepted =
 pub returns-in_default : goal.returns-in_default
 returns-in_default c =
     let a = c.args in
-    unpack_refused a.p a.file.now (rooms a.colours.now a.edges.now) c.refusal.result
-    (refused_is a.p a.file.now a.answer c.requires.1 c.in_default.field-0 c.refusal.result c.in_default.is c.refusal.ensures)
+    rw c.in_default.is (unpack_refused a.p a.file.now (rooms a.colours.now a.edges.now) _ (refused_is _ _ _ c.check_as-checked.ensures _ c.in_default.is))
 
 pub returns-then-colours-n : goal.returns-then-colours-n
 returns-then-colours-n c =
     let a = c.args in
-    rw c.plain.ensures (short a.p a.file.now c.in-Accepted.r (read_is _ _ c.args.answer c.requires.1 _ c.in-Accepted.is) (rooms a.colours.now a.edges.now) (inl c.if-colours-n.true))
+    rw c.into.ensures (short a.p a.file.now c.in-Ok.r (read_is _ _ _ c.check_as-checked.ensures _ c.in-Ok.is) (rooms a.colours.now a.edges.now) (inl c.if-colours-n.true))
 
 pub overflow_mul-e : goal.overflow_mul-e
-overflow_mul-e c = omega (
-  arith,
-  (few c.args.p c.args.file.now c.args.answer c.requires.1 c.requires.0 _ c.in-Accepted.is).count≤,
-)
+overflow_mul-e c = omega (arith, (few _ _ _ c.check_as-checked.ensures _ c.in-Ok.is).count≤)
 
 pub returns-then-edges-e : goal.returns-then-edges-e
 returns-then-edges-e c =
     let a = c.args in
-    rw c.plain-then-edges-e.ensures (short a.p a.file.now c.in-Accepted.r (read_is _ _ c.args.answer c.requires.1 _ c.in-Accepted.is) (rooms a.colours.now a.edges.now) (inr c.if-edges-e.true))
+    rw c.into-then-edges-e.ensures (short a.p a.file.now c.in-Ok.r (read_is _ _ _ c.check_as-checked.ensures _ c.in-Ok.is) (rooms a.colours.now a.edges.now) (inr c.if-edges-e.true))
 
 pub get_run-requires : goal.get_run-requires
 get_run-requires c =
-    let a = c.args in
-    let ok = c.requires.0 in
+    let p = c.args.p in
+    let r = c.in-Ok.r in
     record {
-      narrow = ok.colour≤;
+      narrow = p.usable.colour≤;
       room = c.if-colours-n.false;
       near = omega (
         arith,
         c.header_bits.ensures.1,
-        mul_comm c.in-Accepted.r.states a.p.colour,
-        colours_high a.p ok c.in-Accepted.r.states (few c.args.p c.args.file.now c.args.answer c.requires.1 c.requires.0 _ c.in-Accepted.is).states≤,
+        mul_comm r.states p.colour,
+        colours_high p p.usable r.states (few _ _ _ c.check_as-checked.ensures _ c.in-Ok.is).states≤,
       );
     }
 
 pub edges_begin-requires : goal.edges_begin-requires
-edges_begin-requires c = (
-  c.requires.0,
-  (few c.args.p c.args.file.now c.args.answer c.requires.1 c.requires.0 _ c.in-Accepted.is).states≤,
-)
+edges_begin-requires c = (few _ _ _ c.check_as-checked.ensures _ c.in-Ok.is).states≤
 
 pub get_edges-requires : goal.get_edges-requires
 get_edges-requires c =
     record {
-      usable = c.requires.0;
       begin = c.edges_begin.ensures.1;
-      few = (few c.args.p c.args.file.now c.args.answer c.requires.1 c.requires.0 _ c.in-Accepted.is).count≤;
+      few = (few _ _ _ c.check_as-checked.ensures _ c.in-Ok.is).count≤;
       holds = c.if-edges-e.false;
     }
 
 pub returns : goal.returns
 returns c =
     let a = c.args in
-    let is = (read_is _ _ c.args.answer c.requires.1 _ c.in-Accepted.is) in
-    let r = c.in-Accepted.r in
+    let r = c.in-Ok.r in
+    let is = read_is _ _ _ c.check_as-checked.ensures _ c.in-Ok.is in
     let colours = a.colours.now in
     let edges = a.edges.now in
     let cs : c.get_run.new.out ≡ laid (colours_in a.p a.file.now) colours =

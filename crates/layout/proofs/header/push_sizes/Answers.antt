@@ -11,9 +11,9 @@ push-begun-requires c =
     let pre = c.requires in
     record {
       ready = first.ready;
-      narrow = omega (arith, pre.usable.states≤);
+      narrow = omega (arith, c.args.p.usable.states≤);
       small = pre.fit.0;
-      near = omega (arith, first.place, pre.usable.states≤);
+      near = omega (arith, first.place, c.args.p.usable.states≤);
     }
 
 pub push-requires : goal.push-requires
@@ -24,9 +24,9 @@ push-requires c =
     let pre = c.requires in
     record {
       ready = begun.ready;
-      narrow = omega (arith, pre.usable.labels≤);
+      narrow = omega (arith, c.args.p.usable.labels≤);
       small = pre.fit.1.0;
-      near = omega (arith, begun.place, first.place, pre.usable.states≤, pre.usable.labels≤);
+      near = omega (arith, begun.place, first.place, c.args.p.usable.states≤, c.args.p.usable.labels≤);
     }
 
 pub returns : goal.returns

@@ -11,9 +11,6 @@ pub push-whole-requires : goal.push-whole-requires
 push-whole-requires c =
     edges_next c.requires c.push_sizes-sizes.ensures c.push-begun.ensures
 
-pub finish-requires : goal.finish-requires
-finish-requires c = c.push-whole.ensures.ready
-
 pub returns : goal.returns
 returns c =
     c.finish.ensures ∙ (drawn-behind (drawn-behind c.push_sizes-sizes.ensures c.push-begun.ensures) c.push-whole.ensures).ink

@@ -1,9 +1,0 @@
--- `dot::test_room` meets its contract. Assumes nothing.
-use borrow.Author.Tests.{lt-ltb, le-ltb}
-use Rattle.dot.proofs.test_room.Goals as goal
-
-pub returns-then-room-length : goal.returns-then-room-length
-returns-then-room-length c = rw (c.not_made.ensures, lt-ltb _ _ c.if-room-length.true)
-
-pub returns : goal.returns
-returns c = rw (le-ltb _ _ c.if-room-length.false)
