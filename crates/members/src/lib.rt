@@ -1,9 +1,13 @@
 // Who follows whom in a class, and how many classes there are.
 #![tactic(auto)]
 
+mod classes; // the classes, looked at
+
 ghost use Rattle.std.specs.Prelude.{◌≡◌, ◌≤◌, length};
 ghost use Rattle.meaning.specs.Classes.{classes};
 ghost use Rattle.members.specs.Members.{Linkable, Relinkable, Linked};
+
+pub use classes::Classes;
 
 // For each state that takes part the next one behind it in its class; n where there is none. `live` lists these states.
 pub fn follow(names: &[u16; 256], live: &[u16], n: usize, next: &mut [u16; 256])

@@ -3,23 +3,24 @@
 
 ghost use Rattle.std.specs.Prelude.{◌≡◌, take};
 ghost use Rattle.meaning.specs.ClassesLaws.{Named};
-ghost use Rattle.members.specs.Members.{Heads, Searched, Seated};
+ghost use Rattle.members.specs.Members.{Heads, Seated};
 ghost use Rattle.conflicts.specs.Conflicts.{clash};
 ghost use Rattle.pairs.specs.Pairs.{found_of, Parted};
 
-use table::Row;
+use members::Classes;
 
 // A conflicting pair of the class named c, whose members follow each other from c on.
-fn pair_in(
-    rows: &[Row],
-    names: &[u16; 256],
-    next: &[u16; 256],
-    n: usize,
-    c: usize,
-) -> Option<(usize, usize)>
-    requires { Searched rows.now names.now next.now n × Heads names.now n c }
-    ensures { result ≡ found_of n (clash rows.now names.now) names.now c }
+fn pair_in(classes: Classes, c: usize) -> Option<(usize, usize)>
+    requires { Heads classes.names.now classes.n c }
+    ensures { result
+        ≡ found_of classes.entry.n (clash classes.entry.rows.now classes.entry.names.now) classes.entry.names.now c }
 {
+    let Classes {
+        rows,
+        names,
+        next,
+        n,
+    } = classes;
     let mut found = None;
     let mut a = c;
     'search: while a < n {
@@ -39,23 +40,18 @@ fn pair_in(
 }
 
 // The class with the smallest name that has a conflicting pair. `live` lists the states that take part.
-pub fn first_parted(
-    rows: &[Row],
-    names: &[u16; 256],
-    next: &[u16; 256],
-    live: &[u16],
-    n: usize,
-) -> Option<usize>
-    requires { Searched rows.now names.now next.now n × Named n (take n names.now)
-        × Seated names.now live.now n }
-    ensures { Parted n (clash rows.now names.now) names.now result }
+pub fn first_parted(classes: Classes, live: &[u16]) -> Option<usize>
+    requires { Named classes.n (take classes.n classes.names.now)
+        × Seated classes.names.now live.now classes.n }
+    ensures { Parted classes.entry.n (clash classes.entry.rows.now classes.entry.names.now)
+        classes.entry.names.now result }
 {
     for state in live {
         let c = usize::from(*state);
         // A class is named by one of its members, so what is not its own name has no members to look at.
-        if names[c] == c as u16 {
+        if classes.names[c] == c as u16 {
             // That there is a pair is enough here: a round takes the class, and grouping judges every pair of it by itself.
-            if pair_in(rows, names, next, n, c).is_some() {
+            if pair_in(classes, c).is_some() {
                 return Some(c);
             }
         }

@@ -10,6 +10,7 @@ ghost use Rattle.reach.specs.Walking.{Rises};
 ghost use Rattle.members.specs.Members.{Heads, Searched};
 ghost use Rattle.partition.specs.Partition.{twin, beginning, rounded, Holds};
 
+use members::Classes;
 use table::Row;
 
 // The name of each state's class, its smallest state, 65,535 for a state in none; and the rounds made.
@@ -59,7 +60,13 @@ impl Partition {
         let mut names = self.names;
         let rounds = self.rounds;
         let mut groups = arrays::filled(0);
-        grouping::group(rows, &names, next, n, c, &mut groups);
+        let classes = Classes {
+            rows,
+            names: &names,
+            next,
+            n,
+        };
+        grouping::group(classes, c, &mut groups);
         // by group: its first member, 255 until there is one. No state comes behind 255, so that it may stand for both.
         let mut firsts = arrays::filled(255);
         let mut s = c;

@@ -7,6 +7,7 @@ ghost use Rattle.meaning.specs.Classes.{groups};
 ghost use Rattle.table.specs.Table.{look};
 ghost use Rattle.rounds.specs.Rounds.{Reducible, Somebody, task_of, Settled};
 
+use members::Classes;
 use table::Row;
 
 // The classes at the end, and how many there were at the beginning: one a colour.
@@ -32,7 +33,15 @@ fn settle(
     let mut p = partition::initial(colours, live);
     let distinct = members::count(&p.names, n); // counted here, so that the first classes need not be kept
     members::follow(&p.names, live, n, next);
-    while let Some(c) = pairs::first_parted(rows, &p.names, next, live, n) {
+    while let Some(c) = pairs::first_parted(
+        Classes {
+            rows,
+            names: &p.names,
+            next,
+            n,
+        },
+        live,
+    ) {
         p = p.split(rows, next, n, c);
         members::relink(&p.names, n, c, next);
     }

@@ -7,7 +7,7 @@ use Rattle.grouping.proofs.group.Given as goal
 
 abbrev pub invariant-loop-s : goal.invariant-loop-s
 invariant-loop-s l =
-    Standing l.names l.n l.c l.s × Grouped (clash l.rows l.names) l.names l.c l.into l.s
+    Standing l.classes.names.now l.classes.n l.c l.s × Grouped (clash l.classes.rows.now l.classes.names.now) l.classes.names.now l.c l.into l.s
 
 abbrev pub decreases-loop-s : goal.decreases-loop-s
-decreases-loop-s l = l.n - l.s
+decreases-loop-s l = l.classes.n - l.s

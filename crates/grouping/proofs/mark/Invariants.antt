@@ -8,7 +8,7 @@ use Rattle.grouping.proofs.mark.Given as goal
 
 abbrev pub invariant-loop-t : goal.invariant-loop-t
 invariant-loop-t l =
-    (l.t ≤ l.s) × Standing l.names l.n l.c l.t × Marked (clash l.rows l.names) l.names l.groups l.c l.s l.words l.top l.t
+    (l.t ≤ l.s) × Standing l.classes.names.now l.classes.n l.c l.t × Marked (clash l.classes.rows.now l.classes.names.now) l.classes.names.now l.groups l.c l.s l.words l.top l.t
 
 abbrev pub decreases-loop-t : goal.decreases-loop-t
 decreases-loop-t l = l.s - l.t

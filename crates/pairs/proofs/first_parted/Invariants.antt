@@ -5,4 +5,4 @@ use Rattle.pairs.proofs.Laws.{Tried}
 use Rattle.pairs.proofs.first_parted.Given as goal
 
 abbrev pub invariant-loop-state : goal.invariant-loop-state
-invariant-loop-state l = Tried l.n (clash l.rows l.names) l.names l.live l.state-index
+invariant-loop-state l = Tried l.classes.n (clash l.classes.rows.now l.classes.names.now) l.classes.names.now l.live l.state-index

@@ -9,21 +9,21 @@ use Rattle.pairs.proofs.pair_in.Goals as goal
 use Rattle.pairs.proofs.pair_in.Goals.{After-from-a, After-from-b-in-loop-b}
 
 pub search-init : goal.search-init
-search-init c = outer_begun _ _ _ _ c.requires.1
+search-init c = outer_begun _ _ _ _ c.requires
 
 pub loop-b-init : goal.loop-b-init
 loop-b-init c =
     let here = c.search-test.true in
-    let linked = c.requires.0.linked in
+    let linked = c.args.classes.searched.linked in
     let next = hop _ _ _ linked _ _ _ c.search.invariant.stands here c.from-b.ensures in
     inner_begun _ _ _ _ _ _ _ c.search.invariant next
 
 pub loop-y-init : goal.loop-y-init
 loop-y-init c =
-    let rows = c.args.rows.now in
+    let rows = c.args.classes.rows.now in
     let all : c.into_iter-y-iterator.result.rest ≡ c.shared.result = cc in
-    let inside-a : c.search.a < length rows = omega (arith, c.requires.0.rows.long, c.search-test.true) in
-    let inside-b : c.loop-b.b < length rows = omega (arith, c.requires.0.rows.long, c.loop-b-test.true) in (
+    let inside-a : c.search.a < length rows = omega (arith, c.args.classes.searched.rows.long, c.search-test.true) in
+    let inside-b : c.loop-b.b < length rows = omega (arith, c.args.classes.searched.rows.long, c.loop-b-test.true) in (
       c.loop-b.invariant.nothing,
       calm_begun _ _ _ _ _ (λ y. ap (λ (x : ℕ). holds x y) all
           ∙ rw (get_or_default rows c.search.a _ blank inside-a, get_or_default rows c.loop-b.b _ blank inside-b) at (c.shared.ensures y)),
@@ -38,9 +38,9 @@ loop-y-preserved c =
 -- from b to the next member
 behind-b : (c : After-from-b-in-loop-b)
     → let a = c.args in
-    Hop a.names.now a.n a.c c.loop-b.b c.from-b-in-loop-b.result
+    Hop a.classes.names.now a.classes.n a.c c.loop-b.b c.from-b-in-loop-b.result
 behind-b c =
-    let linked = c.requires.0.linked in
+    let linked = c.args.classes.searched.linked in
     let here = c.loop-b-test.true in
     hop _ _ _ linked _ _ _ c.loop-b.invariant.stands here c.from-b-in-loop-b.ensures
 
@@ -52,9 +52,9 @@ loop-b-preserved c =
 -- and from a
 behind-a : (c : After-from-a)
     → let a = c.args in
-    Hop a.names.now a.n a.c c.search.a c.from-a.result
+    Hop a.classes.names.now a.classes.n a.c c.search.a c.from-a.result
 behind-a c =
-    let linked = c.requires.0.linked in
+    let linked = c.args.classes.searched.linked in
     let here = c.search-test.true in
     hop _ _ _ linked _ _ _ c.search.invariant.stands here c.from-a.ensures
 

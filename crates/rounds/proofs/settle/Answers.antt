@@ -26,11 +26,8 @@ loop-c-init c =
 pub first_parted-requires : goal.first_parted-requires
 first_parted-requires c =
     let pre = c.requires in
-    let run = c.loop-c.invariant.0 in (
-      running_searched _ _ _ _ pre.0 pre.1 _ run _ c.loop-c.invariant.1,
-      running_named _ _ _ _ pre.0 pre.1 _ run,
-      running_seated _ _ _ _ pre.0 pre.1 _ run,
-    )
+    let run = c.loop-c.invariant.0 in
+    (running_named _ _ _ _ pre.0 pre.1 _ run, running_seated _ _ _ _ pre.0 pre.1 _ run)
 
 pub split-p-requires : goal.split-p-requires
 split-p-requires c =
