@@ -6,7 +6,7 @@ use mathlib.Core.List.{List, [], ◌∷◌, ◌++◌}
 use mathlib.Core.Option.{Option, none, some}
 use Prim.Native.Nat.{ℕ, ◌+◌, ◌*◌, ◌-◌, ◌≤◌, ◌<◌}
 use native.Mathlib.Decide.{dec_lt}
-use native.Mathlib.Nat.{le_antisymm, lt_of_lt_of_le}
+use native.Mathlib.Nat.{lt_of_lt_of_le}
 use native.Mathlib.Omega.{arith}
 use lib.ListN.{length, get_or, take, drop, replicate, get_or-append, get_or-eq_default}
 use lib.Pow.{pow_mono}
@@ -27,7 +27,7 @@ use Rattle.layout.specs.Layout.{header_bits, edge_bits, edges_begin}
 use Rattle.layout.specs.declared.edge.Edge as layout
 use Rattle.layout.specs.declared.edge.Placed.{Placed}
 use Rattle.layout.specs.Contents.{states_in, labels_in, colours_in, placed_at, placed_from, edge_at, edges_from, filter_in}
-use Rattle.layout.specs.Code.{edge_of, bare, Small, Usable}
+use Rattle.layout.specs.Code.{edge_of, bare, Usable}
 use Rattle.layout.proofs.Bounds.{states_high}
 use Rattle.layout.proofs.EdgeLists.{edges_around, edges_more, bare_read}
 use Rattle.std.specs.Prelude.{Some}

@@ -1,38 +1,15 @@
-use mathlib.Core.Path.{◌≡◌, refl, ap, sym, ◌∙◌}
-use mathlib.Core.List.{List}
-use Prim.Native.Nat.{ℕ, ◌^◌, ◌≤◌, ◌<◌}
+use mathlib.Core.Path.{refl, ap, sym, ◌∙◌}
 use native.Mathlib.Omega.{arith}
-use Rattle.layout.specs.declared.profile.Profile.{Profile}
-use Rattle.layout.specs.declared.Reading.{Reading}
-use Rattle.layout.specs.Layout.{edges_begin}
-use Rattle.layout.proofs.Bounds.{states_high, count_high, begin_high}
 use mathlib.Core.Option.{some}
 use Rattle.layout.specs.declared.edge.Edge.{Edge}
 use Rattle.layout.specs.Code.{edge_of}
 use Rattle.edges.specs.Walk.{fault_of, rank_of}
 use Rattle.edges.proofs.Walks.{walking-begun, walking_next, walking-faulty, walking-done}
-use Rattle.files.specs.Files.{head_of}
-use Rattle.files.specs.Tests.{HeadIs, head_is, head_refused, check_faultless, check_faulty}
+use Rattle.files.specs.Tests.{head_refused, check_faultless, check_faulty}
 use Rattle.leaving.proofs.Laws.{found_never}
-use Rattle.checking.specs.Promise.{Checked, checked_outcome}
-use Rattle.std.specs.Prelude.{Ok}
 use Rattle.std.proofs.lemmas.Result.{err_from_is_err_and}
-use Rattle.checking.proofs.Calls.{all_passed}
+use Rattle.checking.proofs.Calls.{is_headed, few_states, few_edges, all_passed}
 use Rattle.checking.proofs.check_as.Goals as goal
-
--- ---- what is known where the edges begin
-
-module _ (P : Profile) (file : List ℕ) (a : Checked) (known : checked_outcome a ≡ head_of P file) (r : Reading) (is : a ≡ Ok r) where
-  is_headed : HeadIs P file r
-  is_headed = head_is P file _ (sym known ∙ ap checked_outcome is)
-
-  few_states : r.states ≤ 256
-  few_states = omega (arith, is_headed.states_are, states_high P P.usable file)
-
-  few_edges : r.edges ≤ 65536
-  few_edges = omega (arith, is_headed.count_is, count_high P P.usable file)
-
--- ---- the needs
 
 pub returns-in_err-r : goal.returns-in_err-r
 returns-in_err-r c =
