@@ -6,6 +6,7 @@
 #![tactic(auto)]
 
 ghost use Rattle.std.specs.Prelude.{◌≡◌, ◌≤◌, length};
+ghost use Rattle.cases.specs.Numbers.{Numbered};
 
 use std::io::{self, Read, Write};
 
@@ -34,6 +35,8 @@ pub struct NoCall(pub u8);
 
 impl TryFrom<u8> for Call {
     type Error = NoCall;
+
+    ghost try_from_gives = { Numbered };
 
     fn try_from(number: u8) -> Result<Call, NoCall> {
         match number {

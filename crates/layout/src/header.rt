@@ -8,6 +8,8 @@ ghost use Rattle.layout.specs.Code.{Heading};
 use crate::{Profile, Reading};
 use pen::Pen;
 
+// Inlined, so that where the widths are constants they are known.
+#[inline(always)]
 pub fn read(p: Profile, file: &[u8]) -> Reading
     ensures { result ≡ reading_in p file.now }
 {

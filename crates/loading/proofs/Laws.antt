@@ -2,12 +2,13 @@
 -- Assumes nothing.
 use mathlib.Core.Path.{◌≡◌, refl, sym, ap, ◌∙◌, fun_ext}
 use mathlib.Core.Bool.{true}
-use mathlib.Core.List.{List, [], ◌∷◌, ◌++◌}
+use mathlib.Core.List.{List, [], ◌∷◌, ◌++◌, map}
 use mathlib.Core.Option.{Option, none, some}
 use Prim.Native.Nat.{ℕ, ◌+◌, ◌*◌, ◌-◌, ◌≤◌, ◌<◌}
 use native.Mathlib.Decide.{dec_lt}
 use native.Mathlib.Nat.{lt_of_lt_of_le}
 use native.Mathlib.Omega.{arith}
+use lib.Dec.{lit≤}
 use lib.ListN.{length, get_or, take, drop, replicate, get_or-append, get_or-eq_default}
 use lib.Pow.{pow_mono}
 use lib.Seq.{length-take-le, get_or-take, get_or-drop, get_or-append-add, ext_get_or}
@@ -23,12 +24,12 @@ use Rattle.refusals.specs.declared.Refusal.{Refusal}
 use Rattle.refusals.specs.Refusals.{accepted, refusal_outcome}
 use Rattle.layout.specs.declared.profile.Profile.{Profile}
 use Rattle.layout.specs.declared.Reading.{Reading}
-use Rattle.layout.specs.Layout.{header_bits, edge_bits, edges_begin}
+use Rattle.layout.specs.Layout.{pocket, header_bits, edge_bits, edges_begin}
 use Rattle.layout.specs.declared.edge.Edge as layout
 use Rattle.layout.specs.declared.edge.Placed.{Placed}
 use Rattle.layout.specs.Contents.{states_in, labels_in, colours_in, placed_at, placed_from, edge_at, edges_from, filter_in}
 use Rattle.layout.specs.Code.{edge_of, bare, Usable}
-use Rattle.layout.proofs.Bounds.{states_high}
+use Rattle.layout.proofs.Bounds.{states_high, states_fit, pocket_usable}
 use Rattle.layout.proofs.EdgeLists.{edges_around, edges_more, bare_read}
 use Rattle.std.specs.Prelude.{Some}
 use Rattle.layout.specs.declared.edge.Edges.{Edges}
@@ -45,9 +46,10 @@ use Rattle.files.specs.Written.{length_colours, length-filter}
 use Rattle.files.proofs.Accepted.{checked_in_order}
 use Rattle.checking.specs.Promise.{Checked, checked_outcome}
 use Rattle.sets.proofs.FourLaws.{blank}
+use Rattle.table.specs.declared.Row.{Row}
 use Rattle.table.specs.Table.{Table, look, Rows, with_edge, Put}
 use Rattle.table.specs.Table as table
-use Rattle.table.proofs.Laws.{look_empty}
+use Rattle.table.proofs.Laws.{look_unlabelled, row_empty, marked_look, length_marked}
 use Rattle.loading.specs.Loading.{Loadable, Loaded, Tabled, Coloured}
 
 -- ---- one edge more
@@ -159,14 +161,32 @@ loaded_told P file r a leaving T T' is told found clear has rows = record {
   rows = rows;
 }
 
--- a fresh table of k rows serves a file whose states need no more
-pub serves : (P : Profile) (file : List ℕ) (T : Table) (k : ℕ) → P.labels ≤ 6 → (T ≡ replicate k table.blank) × (length T ≡ k) → states_in P file ≤ k →
+-- a table of k rows without labels serves a file whose states need no more, whatever the targets are
+pub serves_unlabelled : (P : Profile) (file : List ℕ) (T : Table) (k : ℕ) → P.labels ≤ 6 → ((s : ℕ) → (table.row T s).labels ≡ 0) → length T ≡ k → states_in P file ≤ k →
     Loadable P file T
 unfolding target
-serves P file T k narrow fresh h = record {
+serves_unlabelled P file T k narrow bare-rows long h = record {
   labels≤6 = narrow;
-  empty = λ s y. ap (λ (T : Table). look T s y) fresh.0 ∙ ap (λ (f : ℕ → ℕ → Option ℕ). f s y) (look_empty k);
-  rows = record { long = omega (arith, fresh.1, h) };
+  empty = λ s y. ap (λ (f : ℕ → ℕ → Option ℕ). f s y) (look_unlabelled T bare-rows);
+  rows = record { long = omega (arith, long, h) };
+}
+
+-- a fresh table of k rows does
+pub serves : (P : Profile) (file : List ℕ) (T : Table) (k : ℕ) → P.labels ≤ 6 → (T ≡ replicate k table.blank) × (length T ≡ k) → states_in P file ≤ k →
+    Loadable P file T
+serves P file T k narrow fresh h =
+    serves_unlabelled P file T k narrow (λ s. ap (λ (T : Table). (table.row T s).labels) fresh.0 ∙ ap (λ (r : Row). r.labels) (row_empty k s)) fresh.1 h
+
+-- the small table serves every pocket file
+pub pocket_serves : (file : List ℕ) (T : Table) → ((s : ℕ) → (table.row T s).labels ≡ 0) → length T ≡ 16 → Loadable pocket file T
+pocket_serves file T bare-rows long = serves_unlabelled pocket file T 16 (lit≤ tt) bare-rows long (states_fit pocket pocket_usable file)
+
+-- a table whose targets are marked as missing serves as it did
+pub marked_serves : (P : Profile) (file : List ℕ) (T : Table) → Loadable P file T → Loadable P file (map table.marked T)
+marked_serves P file T before = record {
+  labels≤6 = before.labels≤6;
+  empty = marked_look T before.empty;
+  rows = record { long = omega (arith, before.rows.long, length_marked T) };
 }
 
 -- what is loaded can be looked up

@@ -38,7 +38,7 @@ pub fn colours_of(p: Profile, file: &[u8], n: usize) -> [u8; 256]
     requires { n ≡ states_in p file.now }
     ensures { Coloured p file.now result }
 {
-    let mut hues = arrays::filled(0);
+    let mut hues = [0; 256]; // made here, and not by `filled`, whose array would be copied
     pen::get_run(file, layout::header_bits(p), p.colour, n, &mut hues);
     hues
 }

@@ -97,14 +97,15 @@ fn get_threes(s: &[u8], at: usize, width: usize, n: usize, out: &mut [u8]) -> us
     3 * threes
 }
 
-// The same one by one.
+// The same one by one. By index, for behind a loop over `iter_mut` the compiler takes the room for kept, and who lends it a local array
+// copies that.
 fn get_rest(s: &[u8], at: usize, width: usize, n: usize, out: &mut [u8])
     requires { Readable at width n out.old }
     ensures { out.new ≡ fields s.now at (replicate n width) ++ drop n out.old }
 {
     let mut p = at;
-    for place in out[..n].iter_mut() {
-        *place = bits::get(s, p, width) as u8;
+    for i in 0..n {
+        out[i] = bits::get(s, p, width) as u8;
         p += width;
     }
 }

@@ -56,6 +56,7 @@ fn reduce_in(
     ensures { ReducePromise p file.now (rooms answer.old classes.old)
         result (rooms answer.new classes.new) }
 {
+    table::mark_missing(rows);
     let checked = loading::load(p, rows, file);
     let Ok(reading) = checked else {
         return Err(checked.unwrap_err());

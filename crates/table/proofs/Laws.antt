@@ -2,15 +2,16 @@
 -- Assumes nothing.
 use mathlib.Core.Path.{◌≡◌, refl, sym, ap, ◌∙◌, fun_ext}
 use mathlib.Core.Bool.{Bool, true, false, not, ◌&&◌, ◌||◌}
-use mathlib.Core.List.{List, []}
+use mathlib.Core.List.{List, [], ◌∷◌, ◌++◌, map}
 use mathlib.Core.Option.{none, some}
-use Prim.Native.Nat.{ℕ, zero, suc, ◌<◌}
+use Prim.Native.Nat.{ℕ, zero, suc, ◌+◌, ◌<◌}
 use native.Mathlib.Decide.{dec_lt, ℕ_discrete}
 use native.Mathlib.Omega.{arith}
 use lib.Dec.{eqb}
-use lib.ListN.{length, set, replicate}
+use lib.ListN.{length, set, replicate, take, drop}
 use lib.Seq.{get_or-set_same, get_or-set_other}
 use borrow.Author.Tests.{lt-ltb, le-ltb, eq-eqb, ne_eqb, eqb-true, eqb-false}
+use Rattle.std.specs.Prelude.{slice_index_or}
 use Rattle.meaning.specs.Search.{at}
 use Rattle.meaning.specs.Pick.{pick}
 use Rattle.meaning.specs.Cases.{impossible, cases_of, no_both, and_left}
@@ -19,7 +20,7 @@ use Rattle.meaning.specs.Trace.{target}
 use Rattle.sets.specs.Sets.{holds}
 use Rattle.sets.proofs.Laws.{holds_none}
 use Rattle.table.specs.declared.Row.{Row}
-use Rattle.table.specs.Table.{Table, row, blank, look, with_edge, or, given}
+use Rattle.table.specs.Table.{Table, row, blank, marked, look, with_edge, or, given}
 
 -- ---- one state at one label
 
@@ -58,15 +59,18 @@ look_there T s y t e = go (dec_lt y 64)
     go (no h) = let is = sym (look_out T s y h) ∙ e in impossible cc
 
 -- each row of an empty table is blank
-row_empty : (k s : ℕ) → row (replicate k blank) s ≡ blank
+pub row_empty : (k s : ℕ) → row (replicate k blank) s ≡ blank
 row_empty zero s = refl
 row_empty (suc k) zero = refl
 row_empty (suc k) (suc s) = row_empty k s
 
-pub look_empty : (k : ℕ) → look (replicate k blank) ≡ target []
+-- without labels there are no edges, whatever the targets are
+pub look_unlabelled : (T : Table) → ((s : ℕ) → (row T s).labels ≡ 0) → look T ≡ target []
 unfolding target
-look_empty k = fun_ext λ s. fun_ext λ y.
-    look_none (replicate k blank) s y (ap (λ (r : Row). holds r.labels y) (row_empty k s) ∙ holds_none y)
+look_unlabelled T e = fun_ext λ s. fun_ext λ y. look_none T s y (ap (λ (set : ℕ). holds set y) (e s) ∙ holds_none y)
+
+pub look_empty : (k : ℕ) → look (replicate k blank) ≡ target []
+look_empty k = look_unlabelled (replicate k blank) λ s. ap (λ (r : Row). r.labels) (row_empty k s)
 
 -- where two tables have the same row they look up the same
 same_row : (T T' : Table) (s y : ℕ) → row T' s ≡ row T s → look T' s y ≡ look T s y
@@ -202,3 +206,34 @@ module _ (T : Table) (from to both : ℕ) (own other : Row) (own-is : own ≡ ro
       go : (y : ℕ) → Dec (y < 64) → look gave to y ≡ or (look T to y) (look T from y)
       go y (yes h) = to_label y h
       go y (no h) = look_out gave to y h ∙ rw (look_out T to y h, look_out T from y h)
+
+-- ---- rows whose targets are marked
+
+-- one row more is gone over
+pub marked_more : (d : Row) (T : Table) (i : ℕ) → i < length T →
+    let now = map marked (take i T) ++ drop i T in
+    set now i (marked (slice_index_or now i d)) ≡ map marked (take (i + 1) T) ++ drop (i + 1) T
+marked_more d [] i h = absurd (omega (arith, h))
+marked_more d (r ∷ T) zero h = refl
+marked_more d (r ∷ T) (suc i) h =
+    let next : suc i + 1 ≡ suc (i + 1) = omega arith in
+    rw next (ap (λ (rs : Table). marked r ∷ rs) (marked_more d T i (omega (arith, h))))
+
+marked_labels : (T : Table) (s : ℕ) → (row (map marked T) s).labels ≡ (row T s).labels
+marked_labels [] s = refl
+marked_labels (r ∷ T) zero = refl
+marked_labels (r ∷ T) (suc s) = marked_labels T s
+
+pub length_marked : (T : Table) → length (map marked T) ≡ length T
+length_marked [] = refl
+length_marked (r ∷ T) = ap suc (length_marked T)
+
+-- a table without edges goes on without
+pub marked_look : (T : Table) → ((s y : ℕ) → look T s y ≡ none) → (s y : ℕ) → look (map marked T) s y ≡ none
+marked_look T e s y = go (dec_lt y 64)
+  where
+    go : Dec (y < 64) → look (map marked T) s y ≡ none
+    go (yes h) = cases_of (holds (row T s).labels y)
+        (λ q. let is = sym (look_some T s y h q) ∙ e s y in impossible cc)
+        (λ q. look_none (map marked T) s y (ap (λ (set : ℕ). holds set y) (marked_labels T s) ∙ q))
+    go (no h) = look_out (map marked T) s y h

@@ -14,6 +14,10 @@ Table = List Row
 abbrev pub blank : Row
 blank = record { labels = 0; targets = replicate 64 0 }
 
+-- The row with 255, which few filters have as a state, as each target.
+abbrev pub marked : Row → Row
+marked r = record { labels = r.labels; targets = replicate 64 255 }
+
 -- The row of a state. A state past the table's end has no edge.
 abbrev pub row : Table → ℕ → Row
 row T s = slice_index_or T s blank

@@ -3,9 +3,9 @@
 // cleared in one go.
 #![tactic(auto)]
 
-ghost use Rattle.std.specs.Prelude.{◌≡◌, ◌+◌, ◌<◌, length, replicate};
+ghost use Rattle.std.specs.Prelude.{◌≡◌, ◌+◌, ◌<◌, length, map, replicate};
 ghost use Rattle.meaning.specs.Search.{at};
-ghost use Rattle.table.specs.Table.{Rows, row, blank, Put, Gave};
+ghost use Rattle.table.specs.Table.{Rows, row, blank, marked, Put, Gave};
 
 // The edges of one state.
 #[derive(Clone, Copy)]
@@ -22,6 +22,16 @@ pub fn empty<const N: usize>() -> [Row; N]
         labels: 0,
         targets: [0; 64],
     }; N]
+}
+
+// Sets all targets of a table without edges to 255, which few filters have as a state: code that forgets to ask the sets then goes
+// wrong where it is seen, and is not right by chance where state 0 would be.
+pub fn mark_missing(rows: &mut [Row])
+    ensures { rows.new ≡ map marked rows.old }
+{
+    for row in rows.iter_mut() {
+        row.targets = [255; 64];
+    }
 }
 
 // The target of a state at a label.

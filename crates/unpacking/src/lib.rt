@@ -4,6 +4,7 @@
 ghost use Rattle.std.specs.Prelude.{◌≡◌, ◌++◌, ◌*◌, drop};
 ghost use Rattle.layout.specs.Layout.{flat};
 ghost use Rattle.layout.specs.Contents.{edges_from};
+ghost use Rattle.checking.specs.Promise.{CheckPromise};
 ghost use Rattle.unpacking.specs.Promise.{rooms, UnpackPromise, Readable};
 
 use layout::{Format, Profile, Reading};
@@ -18,20 +19,23 @@ pub fn unpack<F: Format>(
     ensures { UnpackPromise F.profile file.now (rooms colours.old edges.old)
         result (rooms colours.new edges.new) }
 {
-    unpack_as(F::profile(), file, colours, edges)
+    // The call is compiled once a kind of file: inlined here, it would take the registers of the loop that writes the edges.
+    let checked = checking::check::<F>(file);
+    unpack_as(F::profile(), checked, file, colours, edges)
 }
 
-// The same for any widths.
+// The same for any widths, of a file that was checked.
 fn unpack_as(
     p: Profile,
+    checked: Result<Reading, Refusal>,
     file: &[u8],
     colours: &mut [u8],
     edges: &mut [u8],
 ) -> Result<Reading, Refusal>
+    requires { CheckPromise p file.now checked }
     ensures { UnpackPromise p file.now (rooms colours.old edges.old)
         result (rooms colours.new edges.new) }
 {
-    let checked = checking::check_as(p, file);
     let Ok(r) = checked else {
         return checked;
     };

@@ -1,9 +1,18 @@
 -- `reduction::reduce_in` meets its contract: the check's answer decides, then the rooms, and then the file is reduced. Assumes nothing.
+use mathlib.Core.Path.{ap}
 use native.Mathlib.Omega.{arith}
+use lib.ListN.{length}
+use Rattle.table.proofs.Laws.{length_marked}
+use Rattle.loading.proofs.Laws.{marked_serves}
 use Rattle.checking.proofs.Calls.{refused_is, read_is}
 use Rattle.folding.specs.Folding.{rooms}
 use Rattle.reduction.proofs.Calls.{reduce_refused, reduce-short, reduce_few, reduce_folded}
 use Rattle.reduction.proofs.reduce_in.Goals as goal
+
+pub load-checked-requires : goal.load-checked-requires
+load-checked-requires c =
+    let a = c.args in
+    rw c.mark_missing.ensures (marked_serves a.p a.file.now a.rows.now c.requires)
 
 pub returns-in_default : goal.returns-in_default
 returns-in_default c =
@@ -24,6 +33,7 @@ returns-then-classes-reading c =
 
 pub fold-requires : goal.fold-requires
 fold-requires c =
+    let a = c.args in
     let pre = c.requires in
     let loaded = c.load-checked.ensures in
     let is = read_is _ _ _ loaded.answer _ c.in-Ok.is in
@@ -31,7 +41,7 @@ fold-requires c =
       labels≤6 = pre.labels≤6;
       answer = is.answer;
       edges = loaded.edges _ is.answer;
-      rows = record { long = omega (arith, is.states_are, pre.rows.long, loaded.rows) };
+      rows = record { long = omega (arith, is.states_are, pre.rows.long, loaded.rows, ap length c.mark_missing.ensures, length_marked a.rows.now) };
       answer_room = c.if-answer-file.false;
       class_room = c.if-classes-reading.false;
     }

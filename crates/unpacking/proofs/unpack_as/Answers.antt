@@ -37,20 +37,20 @@ few P file a promise r accepted =
 pub returns-in_default : goal.returns-in_default
 returns-in_default c =
     let a = c.args in
-    rw c.in_default.is (unpack_refused a.p a.file.now (rooms a.colours.now a.edges.now) _ (refused_is _ _ _ c.check_as-checked.ensures _ c.in_default.is))
+    rw c.in_default.is (unpack_refused a.p a.file.now (rooms a.colours.now a.edges.now) _ (refused_is _ _ _ c.requires _ c.in_default.is))
 
 pub returns-then-colours-n : goal.returns-then-colours-n
 returns-then-colours-n c =
     let a = c.args in
-    rw c.into.ensures (short a.p a.file.now c.in-Ok.r (read_is _ _ _ c.check_as-checked.ensures _ c.in-Ok.is) (rooms a.colours.now a.edges.now) (inl c.if-colours-n.true))
+    rw c.into.ensures (short a.p a.file.now c.in-Ok.r (read_is _ _ _ c.requires _ c.in-Ok.is) (rooms a.colours.now a.edges.now) (inl c.if-colours-n.true))
 
 pub overflow_mul-e : goal.overflow_mul-e
-overflow_mul-e c = omega (arith, (few _ _ _ c.check_as-checked.ensures _ c.in-Ok.is).count≤)
+overflow_mul-e c = omega (arith, (few _ _ _ c.requires _ c.in-Ok.is).count≤)
 
 pub returns-then-edges-e : goal.returns-then-edges-e
 returns-then-edges-e c =
     let a = c.args in
-    rw c.into-then-edges-e.ensures (short a.p a.file.now c.in-Ok.r (read_is _ _ _ c.check_as-checked.ensures _ c.in-Ok.is) (rooms a.colours.now a.edges.now) (inr c.if-edges-e.true))
+    rw c.into-then-edges-e.ensures (short a.p a.file.now c.in-Ok.r (read_is _ _ _ c.requires _ c.in-Ok.is) (rooms a.colours.now a.edges.now) (inr c.if-edges-e.true))
 
 pub get_run-requires : goal.get_run-requires
 get_run-requires c =
@@ -63,18 +63,18 @@ get_run-requires c =
         arith,
         c.header_bits.ensures.1,
         mul_comm r.states p.colour,
-        colours_high p p.usable r.states (few _ _ _ c.check_as-checked.ensures _ c.in-Ok.is).states≤,
+        colours_high p p.usable r.states (few _ _ _ c.requires _ c.in-Ok.is).states≤,
       );
     }
 
 pub edges_begin-requires : goal.edges_begin-requires
-edges_begin-requires c = (few _ _ _ c.check_as-checked.ensures _ c.in-Ok.is).states≤
+edges_begin-requires c = (few _ _ _ c.requires _ c.in-Ok.is).states≤
 
 pub get_edges-requires : goal.get_edges-requires
 get_edges-requires c =
     record {
       begin = c.edges_begin.ensures.1;
-      few = (few _ _ _ c.check_as-checked.ensures _ c.in-Ok.is).count≤;
+      few = (few _ _ _ c.requires _ c.in-Ok.is).count≤;
       holds = c.if-edges-e.false;
     }
 
@@ -82,7 +82,7 @@ pub returns : goal.returns
 returns c =
     let a = c.args in
     let r = c.in-Ok.r in
-    let is = read_is _ _ _ c.check_as-checked.ensures _ c.in-Ok.is in
+    let is = read_is _ _ _ c.requires _ c.in-Ok.is in
     let colours = a.colours.now in
     let edges = a.edges.now in
     let cs : c.get_run.new.out ≡ laid (colours_in a.p a.file.now) colours =
